@@ -1,0 +1,10 @@
+pub mod Digits
+pub mod Row
+pub mod Order
+pub mod Matches
+pub mod Truth
+pub mod Cells
+pub mod Typed
+pub mod Parts
+pub mod ColumnOf
+pub mod Batch

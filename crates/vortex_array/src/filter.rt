@@ -1,0 +1,54 @@
+// Filters.
+use crate::names::Name;
+use crate::scalar::Scalar;
+use sqlite_items::Boxed;
+
+/// How two values are compared.
+#[derive(Clone, Copy, Debug, PartialEq, Eq)]
+pub enum CompareOperator {
+    Eq,
+    NotEq,
+    Gt,
+    Gte,
+    Lt,
+    Lte,
+}
+
+/// Whether a bound itself is left out.
+#[derive(Clone, Copy, Debug, PartialEq, Eq)]
+pub enum StrictComparison {
+    Strict,
+    NonStrict,
+}
+
+/// How a value is compared with its two bounds.
+#[derive(Clone, Copy, Debug, PartialEq, Eq)]
+pub struct BetweenOptions {
+    pub lower_strict: StrictComparison,
+    pub upper_strict: StrictComparison,
+}
+
+/// A row's value in a column, or a constant.
+#[derive(Drop)]
+pub enum Operand {
+    Column(Name),
+    Constant(Scalar),
+}
+
+/// What chooses rows. Its truth for a row is one of three: true, false and null.
+#[derive(Drop)]
+pub enum Filter {
+    /// A truth value.
+    Truth(Operand),
+    /// Two values compared.
+    Compare(CompareOperator, Operand, Operand),
+    /// A value, its lower and its upper bound.
+    Between(BetweenOptions, Operand, Operand, Operand),
+    /// A text and a pattern.
+    Like(Operand, Operand),
+    /// Whether a value is null.
+    IsNull(Operand),
+    Not(Boxed<Filter>),
+    And(Boxed<Filter>, Boxed<Filter>),
+    Or(Boxed<Filter>, Boxed<Filter>),
+}

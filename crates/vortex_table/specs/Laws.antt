@@ -1,0 +1,52 @@
+-- What the definitions imply.
+use Rattle.std.specs.Prelude.{◌≡◌, ◌<◌, ◌⊎◌, ◌↔◌, ℕ, List, AllPairs, All, Any, Contains, not, true, Option, Some, None, option_and_then, slice_get, flat_map, IsTrue}
+use Rattle.vortex_table.specs.declared.scan.selection.Selection.TheVariants.{IncludeByIndex, ExcludeByIndex}
+use Rattle.vortex_table.specs.declared.scan.request.ScanRequest.{ScanRequest}
+use Rattle.vortex_table.specs.declared.describe.PartitionDesc.{PartitionDesc}
+use Rattle.vortex_table.specs.declared.scan.batch.WorkScope.{WorkScope}
+use Rattle.vortex_table.specs.Members.{in_selection}
+use Rattle.vortex_array.specs.Cells.{Row}
+use Rattle.vortex_table.specs.Table.{Decoded, scopes_from}
+use Rattle.vortex_table.specs.Chosen.{Placed, chosen, is_chosen, lies_in, rows_in}
+use Rattle.vortex_table.specs.Answers.{Asked, Given, Answers, stands_for}
+
+-- in an earlier partition, or earlier in the same one
+abbrev pub StandsBefore : Placed → Placed → Type 0
+StandsBefore x y = (x.partition < y.partition) ⊎ ((x.partition ≡ y.partition) × (x.row < y.row))
+
+-- L ascends by partition and then row, so no place stands in it twice
+abbrev pub ChosenAscend : Type 0
+ChosenAscend = (request : ScanRequest) (table : Decoded) → AllPairs StandsBefore (chosen request table)
+
+-- the row of a table at a place
+abbrev pub row_of : Decoded → ℕ → ℕ → Option Row
+row_of table partition row = option_and_then (λ rows. slice_get rows row) (slice_get table.partitions partition)
+
+-- a row of the table has its place in L exactly where it is chosen
+abbrev pub ChosenExactly : Type 0
+ChosenExactly = (request : ScanRequest) (table : Decoded) (partition row : ℕ) (values : Row) → row_of table partition row ≡ Some values
+    → IsTrue (is_chosen request table.columns (record { partition = partition; row = row; values = values })) ↔ Any (λ x. (x.partition ≡ partition) × (x.row ≡ row)) (chosen request table)
+
+-- two answers to one ordered question, joined, are one list
+abbrev pub OrderedAnswersAgree : Type 0
+OrderedAnswersAgree = (a : Asked) (b c : List Given) → a.ordered ≡ true → Answers a b → Answers a c → flat_map (stands_for a.rows) b ≡ flat_map (stands_for a.rows) c
+
+-- of include and exclude by one list, exactly one holds a place
+abbrev pub SelectionsPartition : Type 0
+SelectionsPartition = (listed : List ℕ) (place : ℕ) → in_selection (ExcludeByIndex listed) place ≡ not (in_selection (IncludeByIndex listed) place)
+
+-- a row lies in one split at most
+abbrev pub AreApart : List WorkScope → Type 0
+AreApart scopes = (s t : WorkScope) (x : Placed) → Contains scopes s → Contains scopes t → lies_in s x ≡ true → lies_in t x ≡ true → s ≡ t
+
+-- without a limit each batch has all rows of L in its split
+abbrev pub WithoutLimit : Type 0
+WithoutLimit = (a : Asked) (batches : List Given) → AreApart a.scopes → a.limit ≡ None → Answers a batches → All (λ b. stands_for a.rows b ≡ rows_in b.scope a.rows) batches
+
+-- and each row of L lies in the split of some batch
+abbrev pub NoRowMissing : Type 0
+NoRowMissing = (a : Asked) (batches : List Given) → AreApart a.scopes → a.limit ≡ None → Answers a batches → All (λ x. Any (λ b. lies_in b.scope x ≡ true) batches) a.rows
+
+-- the splits of every table are so
+abbrev pub SplitsAreApart : Type 0
+SplitsAreApart = (partitions : List PartitionDesc) → AreApart (scopes_from 0 partitions)

@@ -1,0 +1,5 @@
+pub mod Rising
+pub mod Ascend
+pub mod Exactly
+pub mod Whole
+pub mod Apart

@@ -2,9 +2,14 @@
 #![tactic(auto)]
 
 mod describe;
+mod laws;
 pub mod scan;
 
 pub use describe::{ChunkDesc, PartitionDesc, SplitDesc};
+pub use laws::{
+    chosen_ascend, chosen_exactly, no_row_missing, ordered_answers_agree, selections_partition,
+    splits_are_apart, without_limit,
+};
 pub use scan::{
     Batch, Names, NotIncreasing, Place, Projection, RootId, ScanRequest, Selection,
     StrictSortedBuffer, WorkScope,

@@ -13,14 +13,14 @@ use Rattle.vortex_table.specs.Laws.{SplitsAreApart}
 use Rattle.vortex_table.proofs.Rising.{Each, Rising, pairs, each_more, each_append, rising_append}
 
 -- the second begins where the first has ended, or lies in a later partition
-abbrev Past : WorkScope → WorkScope → Type 0
+abbrev pub Past : WorkScope → WorkScope → Type 0
 Past s t = (s.file_ordinal < t.file_ordinal) ⊎ ((s.file_ordinal ≡ t.file_ordinal) × (s.rows.end ≤ t.rows.start))
 
-of_partition : (p start : ℕ) (splits : List SplitDesc) → Each (λ t. t.file_ordinal ≡ p) (split_scopes p start splits)
+pub of_partition : (p start : ℕ) (splits : List SplitDesc) → Each (λ t. t.file_ordinal ≡ p) (split_scopes p start splits)
 of_partition p start [] = tt
 of_partition p start (s ∷ splits) = (refl, of_partition p (start + s.rows) splits)
 
-behind : (p m start : ℕ) (splits : List SplitDesc) → m ≤ start → Each (λ t. (p ≡ t.file_ordinal) × (m ≤ t.rows.start)) (split_scopes p start splits)
+pub behind : (p m start : ℕ) (splits : List SplitDesc) → m ≤ start → Each (λ t. (p ≡ t.file_ordinal) × (m ≤ t.rows.start)) (split_scopes p start splits)
 behind p m start [] h = tt
 behind p m start (s ∷ splits) h = ((refl, h), behind p m (start + s.rows) splits (omega (arith, h)))
 
@@ -32,14 +32,14 @@ splits_rise p start (s ∷ splits) = (
   splits_rise p (start + s.rows) splits,
 )
 
-later : (q p : ℕ) (partitions : List PartitionDesc) → q ≤ p → Each (λ t. q ≤ t.file_ordinal) (scopes_from p partitions)
+pub later : (q p : ℕ) (partitions : List PartitionDesc) → q ≤ p → Each (λ t. q ≤ t.file_ordinal) (scopes_from p partitions)
 later q p [] h = tt
 later q p (d ∷ partitions) h =
     each_append (λ t. q ≤ t.file_ordinal) (split_scopes p 0 d.splits) (scopes_from (p + 1) partitions)
     (each_more (λ t. t.file_ordinal ≡ p) (λ t. q ≤ t.file_ordinal) (λ t e. omega (arith, e, h)) (split_scopes p 0 d.splits) (of_partition p 0 d.splits))
     (later q (p + 1) partitions (omega (arith, h)))
 
-scopes_rise : (p : ℕ) (partitions : List PartitionDesc) → Rising Past (scopes_from p partitions)
+pub scopes_rise : (p : ℕ) (partitions : List PartitionDesc) → Rising Past (scopes_from p partitions)
 scopes_rise p [] = tt
 scopes_rise p (d ∷ partitions) =
     rising_append Past (split_scopes p 0 d.splits) (scopes_from (p + 1) partitions) (splits_rise p 0 d.splits) (scopes_rise (p + 1) partitions)
@@ -48,12 +48,12 @@ scopes_rise p (d ∷ partitions) =
     (split_scopes p 0 d.splits) (of_partition p 0 d.splits))
 
 -- the numbers that a scope says of a row in it
-record Within (s : WorkScope) (x : Placed) : Type 0 where
-  there : x.partition ≡ s.file_ordinal
-  from : s.rows.start ≤ x.row
-  below : x.row < s.rows.end
+pub record Within (s : WorkScope) (x : Placed) : Type 0 where
+  pub there : x.partition ≡ s.file_ordinal
+  pub from : s.rows.start ≤ x.row
+  pub below : x.row < s.rows.end
 
-within : (s : WorkScope) (x : Placed) → lies_in s x ≡ true → Within s x
+pub within : (s : WorkScope) (x : Placed) → lies_in s x ≡ true → Within s x
 within s x h = record { there = grind arith; from = grind arith; below = grind arith }
 
 never : (s t : WorkScope) (x : Placed) → Past s t → Within s x → Within t x → ⊥

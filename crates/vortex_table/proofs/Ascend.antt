@@ -13,14 +13,14 @@ placed p x = record { partition = p; row = x.0; values = x.1 }
 part_rises : (p : ℕ) (rows : List Row) → Rising StandsBefore (placed_rows p rows)
 part_rises p rows = rising_map (λ s t. s.0 < t.0) StandsBefore (placed p) (λ s t h. inr (refl, h)) (enumerate_from 0 rows) (numbered_rise 0 rows)
 
-part_is : (p n : ℕ) (rows : List Row) → Each (λ x. x.partition ≡ p) (map (placed p) (enumerate_from n rows))
+pub part_is : (p n : ℕ) (rows : List Row) → Each (λ x. x.partition ≡ p) (map (placed p) (enumerate_from n rows))
 part_is p n [] = tt
 part_is p n (r ∷ rows) = (refl, part_is p (n + 1) rows)
 
-abbrev parts : ℕ → List (List Row) → List Placed
+abbrev pub parts : ℕ → List (List Row) → List Placed
 parts p partitions = flat_map (λ x. placed_rows x.0 x.1) (enumerate_from p partitions)
 
-parts_from : (q p : ℕ) (partitions : List (List Row)) → q ≤ p → Each (λ x. q ≤ x.partition) (parts p partitions)
+pub parts_from : (q p : ℕ) (partitions : List (List Row)) → q ≤ p → Each (λ x. q ≤ x.partition) (parts p partitions)
 parts_from q p [] h = tt
 parts_from q p (rows ∷ partitions) h =
     each_append (λ x. q ≤ x.partition) (placed_rows p rows) (parts (p + 1) partitions)

@@ -3,3 +3,4 @@ pub mod Ascend
 pub mod Exactly
 pub mod Whole
 pub mod Apart
+pub mod Tiling

@@ -4,3 +4,4 @@ pub mod Exactly
 pub mod Whole
 pub mod Apart
 pub mod Tiling
+pub mod Turning

@@ -142,8 +142,7 @@ parts_lie R p start (split ∷ splits) (columns ∷ content) r =
     let all : (t : WorkScope) → rows_in t (placed_from p start (split_rows split columns ++ rows_of splits content)) ≡ rows_in t first ++ rows_in t rest =
     λ t. ap (rows_in t) (opened p start split columns (rows_of splits content)) ∙ filter-append (lies_in t) first rest in
     let inside : rows_in s first ≡ first = all_kept (lies_in s) first (all_lie p start (start + split.rows) start (split_rows split columns) (omega arith) (omega (arith, length_split split columns))) in
-    let outside : rows_in s rest ≡ [] = none_kept (lies_in s) rest (later_not s p (start + split.rows) (rows_of splits content) (omega arith)) in
-    (
+    let outside : rows_in s rest ≡ [] = none_kept (lies_in s) rest (later_not s p (start + split.rows) (rows_of splits content) (omega arith)) in (
       all s ∙ ap (λ x. x ++ rows_in s rest) inside ∙ ap (λ x. first ++ x) outside ∙ append-nil first,
       zip_more (λ t. (p ≡ t.file_ordinal) × (start + split.rows ≤ t.rows.start)) (λ t part. rows_in t rest ≡ part)
           (λ t part. rows_in t (placed_from p start (split_rows split columns ++ rows_of splits content)) ≡ part)
@@ -178,9 +177,9 @@ tiles_append ss ts xs ys h k e f =
     let all : (t : WorkScope) → rows_in t (xs ++ ys) ≡ rows_in t xs ++ rows_in t ys = λ t. filter-append (lies_in t) xs ys in
     flat_map-append (λ s. rows_in s (xs ++ ys)) ss ts
     ∙ ap (λ z. z ++ flat_map (λ s. rows_in s (xs ++ ys)) ts)
-      (flat_same (λ s. rows_in s (xs ++ ys)) (λ s. rows_in s xs) ss (each_more (λ s. rows_in s ys ≡ []) (λ s. rows_in s (xs ++ ys) ≡ rows_in s xs) (λ s n. all s ∙ ap (λ z. rows_in s xs ++ z) n ∙ append-nil (rows_in s xs)) ss e) ∙ h)
+    (flat_same (λ s. rows_in s (xs ++ ys)) (λ s. rows_in s xs) ss (each_more (λ s. rows_in s ys ≡ []) (λ s. rows_in s (xs ++ ys) ≡ rows_in s xs) (λ s n. all s ∙ ap (λ z. rows_in s xs ++ z) n ∙ append-nil (rows_in s xs)) ss e) ∙ h)
     ∙ ap (λ z. xs ++ z)
-      (flat_same (λ s. rows_in s (xs ++ ys)) (λ s. rows_in s ys) ts (each_more (λ s. rows_in s xs ≡ []) (λ s. rows_in s (xs ++ ys) ≡ rows_in s ys) (λ s n. all s ∙ ap (λ z. z ++ rows_in s ys) n) ts f) ∙ k)
+    (flat_same (λ s. rows_in s (xs ++ ys)) (λ s. rows_in s ys) ts (each_more (λ s. rows_in s xs ≡ []) (λ s. rows_in s (xs ++ ys) ≡ rows_in s ys) (λ s n. all s ∙ ap (λ z. z ++ rows_in s ys) n) ts f) ∙ k)
 
 -- the rows of each partition that a description and its content make
 abbrev rows_by : List PartitionDesc → List Content → List (List Row)

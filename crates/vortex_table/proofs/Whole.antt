@@ -70,7 +70,7 @@ total_fits bs r [] = omega (arith, total-nil bs)
 total_fits bs r (x ∷ rows) = omega (arith, total-cons bs x rows, one_hit x bs (r x), total_fits bs r rows)
 
 -- the count by recursion
-abbrev counted : List Given → ℕ
+abbrev pub counted : List Given → ℕ
 counted [] = 0
 counted (b ∷ bs) = b.rows + counted bs
 
@@ -82,7 +82,7 @@ all_full : (rows : List Placed) (bs : List Given) → Each (λ b. b.rows ≤ len
 all_full rows [] e h = tt
 all_full rows (b ∷ bs) e h = (omega (arith, e.0, at_most rows bs e.1, h), all_full rows bs e.1 (omega (arith, e.0, h)))
 
-count-is : (bs : List Given) → count_of bs ≡ counted bs
+pub count-is : (bs : List Given) → count_of bs ≡ counted bs
 count-is [] = refl
 count-is (b ∷ bs) = sum_by-cons (λ x. x.rows) b bs ∙ ap (λ n. b.rows + n) (count-is bs)
 

@@ -5,3 +5,4 @@ pub mod Whole
 pub mod Apart
 pub mod Tiling
 pub mod Turning
+pub mod Joined

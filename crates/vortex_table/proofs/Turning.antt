@@ -12,6 +12,7 @@ use Rattle.vortex_table.specs.declared.scan.request.ScanRequest.{ScanRequest}
 use Rattle.vortex_table.specs.Table.{Content, FitsPartition, decoded, scopes_from}
 use Rattle.vortex_table.specs.Chosen.{Placed, chosen, lies_in, projected_types, rows_in}
 use Rattle.vortex_table.specs.Answers.{Answers, Asked, Given, InOrder, IsBefore, IsPrefix, asked, columns_of, count_of, stands_for, within}
+use Rattle.vortex_table.specs.Laws.{EachQuestionHasAnAnswer}
 use Rattle.vortex_table.specs.Turn.{given_of, in_turn}
 use Rattle.vortex_table.proofs.Rising.{Each, Rising, each_at, each_more, pairs}
 use Rattle.vortex_table.proofs.Apart.{Past, Within, scopes_rise, within as lies_within}
@@ -178,6 +179,12 @@ module _ (a : Asked) where
         counted = all;
         in_order = λ o. record { ascending = ascending; joined = joined ∙ ap (λ k. take k a.rows) (sym all) };
       }
+
+-- and so every question from a table has an answer
+pub has_answer : EachQuestionHasAnAnswer
+has_answer columns partitions contents request fits =
+    let a : Asked = asked columns partitions contents request in
+    (turns a.types a.rows (within a.limit (length a.rows)) a.scopes, turns_answer a (scopes_rise 0 partitions) (chosen_tiled columns partitions contents request fits))
 
 -- without a limit one batch for each split that has chosen rows, in order and with all of them, is an answer
 pub in_turn_answers : (columns : List ColumnDesc) (partitions : List PartitionDesc) (contents : List Content) (request : ScanRequest) → AllZip FitsPartition partitions contents → request.limit ≡ None

@@ -9,7 +9,7 @@ use Rattle.vortex_table.specs.Answers.{Answers, Asked, Given, IsPrefix, count_of
 use Rattle.vortex_table.specs.Laws.{AreApart, NoRowMissing, WithoutLimit}
 use Rattle.vortex_table.proofs.Rising.{Each, Rising, each_at, each_more}
 
-all_each : {X : Type 0} (P : X → Type 0) (xs : List X) → All P xs → Each P xs
+pub all_each : {X : Type 0} (P : X → Type 0) (xs : List X) → All P xs → Each P xs
 all_each P [] a = tt
 all_each P (x ∷ xs) a = (a 0 x (omega arith), all_each P xs (λ k d h. a (suc k) d (omega (arith, h))))
 

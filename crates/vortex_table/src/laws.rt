@@ -1,5 +1,5 @@
 // What the definitions imply, each law the contract of a function that does nothing.
-ghost use Rattle.vortex_table.specs.Laws.{ChosenAscend, ChosenExactly, NoRowMissing, OrderedAnswersAgree, SelectionsPartition, SplitsAreApart, WithoutLimit};
+ghost use Rattle.vortex_table.specs.Laws.{AnswerIsItsRows, ChosenAscend, ChosenExactly, ChosenRowsAreFull, EachQuestionHasAnAnswer, NoRowMissing, OrderedAnswerIsFirstRows, OrderedAnswersAgree, SelectionsPartition, SplitsAreApart, WithoutLimit};
 
 /// The list of chosen rows ascends by place, so no place stands in it twice.
 pub fn chosen_ascend()
@@ -34,4 +34,24 @@ pub fn splits_are_apart()
 /// Without a limit each chosen row lies in the split of some batch.
 pub fn no_row_missing()
     ensures { NoRowMissing }
+{}
+
+/// Each question that a request asks of a table has an answer, whatever its limit and its order.
+pub fn each_question_has_an_answer()
+    ensures { EachQuestionHasAnAnswer }
+{}
+
+/// Where every name is known, each chosen row has a value for each projected type.
+pub fn chosen_rows_are_full()
+    ensures { ChosenRowsAreFull }
+{}
+
+/// The batches of an answer, read row by row, are the chosen rows that they stand for.
+pub fn answer_is_its_rows()
+    ensures { AnswerIsItsRows }
+{}
+
+/// The batches of an ordered answer, read row by row, are the first chosen rows, up to the limit.
+pub fn ordered_answer_is_first_rows()
+    ensures { OrderedAnswerIsFirstRows }
 {}

@@ -16,14 +16,17 @@ use Rattle.vortex_table.proofs.Rising.{Each, Rising, pairs, each_more, each_appe
 abbrev pub Past : WorkScope → WorkScope → Type 0
 Past s t = (s.file_ordinal < t.file_ordinal) ⊎ ((s.file_ordinal ≡ t.file_ordinal) × (s.rows.end ≤ t.rows.start))
 
+-- the scopes of partition p's splits name it
 pub of_partition : (p start : ℕ) (splits : List SplitDesc) → Each (λ t. t.file_ordinal ≡ p) (split_scopes p start splits)
 of_partition p start [] = tt
 of_partition p start (s ∷ splits) = (refl, of_partition p (start + s.rows) splits)
 
+-- the splits from row `start` on begin there or later
 pub behind : (p m start : ℕ) (splits : List SplitDesc) → m ≤ start → Each (λ t. (p ≡ t.file_ordinal) × (m ≤ t.rows.start)) (split_scopes p start splits)
 behind p m start [] h = tt
 behind p m start (s ∷ splits) h = ((refl, h), behind p m (start + s.rows) splits (omega (arith, h)))
 
+-- each split of a partition ends before the later ones begin
 splits_rise : (p start : ℕ) (splits : List SplitDesc) → Rising Past (split_scopes p start splits)
 splits_rise p start [] = tt
 splits_rise p start (s ∷ splits) = (
@@ -32,6 +35,7 @@ splits_rise p start (s ∷ splits) = (
   splits_rise p (start + s.rows) splits,
 )
 
+-- the scopes of the partitions from p on name no earlier one
 pub later : (q p : ℕ) (partitions : List PartitionDesc) → q ≤ p → Each (λ t. q ≤ t.file_ordinal) (scopes_from p partitions)
 later q p [] h = tt
 later q p (d ∷ partitions) h =
@@ -39,6 +43,7 @@ later q p (d ∷ partitions) h =
     (each_more (λ t. t.file_ordinal ≡ p) (λ t. q ≤ t.file_ordinal) (λ t e. omega (arith, e, h)) (split_scopes p 0 d.splits) (of_partition p 0 d.splits))
     (later q (p + 1) partitions (omega (arith, h)))
 
+-- so with all splits of a table
 pub scopes_rise : (p : ℕ) (partitions : List PartitionDesc) → Rising Past (scopes_from p partitions)
 scopes_rise p [] = tt
 scopes_rise p (d ∷ partitions) =
@@ -53,12 +58,15 @@ pub record Within (s : WorkScope) (x : Placed) : Type 0 where
   pub from : s.rows.start ≤ x.row
   pub below : x.row < s.rows.end
 
+-- a row that lies in a split has such numbers
 pub within : (s : WorkScope) (x : Placed) → lies_in s x ≡ true → Within s x
 within s x h = record { there = grind arith; from = grind arith; below = grind arith }
 
+-- no row lies in two splits of which one ends before the other
 never : (s t : WorkScope) (x : Placed) → Past s t → Within s x → Within t x → ⊥
 never s t x p u v = ⊎_elim (λ l. omega (arith, l, u.there, v.there)) (λ l. omega (arith, l.1, u.below, v.from)) p
 
+-- so two splits of a rising list with a row in common are one
 apart_at : (xs : List WorkScope) → Rising Past xs → (s t : WorkScope) (x : Placed) → Contains xs s → Contains xs t → Within s x → Within t x → s ≡ t
 apart_at xs r s t x c d u v =
     let stands : (j : ℕ) (y z : WorkScope) → j < length xs → get_or xs j z ≡ z → get_or xs j y ≡ z = λ j y z h e. get_or_default xs j y z h ∙ e in
@@ -68,5 +76,6 @@ apart_at xs r s t x c d u v =
     (⊎_elim (λ l. absurd (never s t x (past c.0 d.0 s t l c.1 d.1 c.2 d.2) u v)) (λ l. absurd (never t s x (past d.0 c.0 t s l d.1 c.1 d.2 c.2) v u)))
     (cases_order c.0 d.0)
 
+-- a row lies in one split of a table at most
 pub apart : SplitsAreApart
 apart partitions s t x c d h k = apart_at (scopes_from 0 partitions) (scopes_rise 0 partitions) s t x c d (within s x h) (within t x k)

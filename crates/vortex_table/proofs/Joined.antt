@@ -1,5 +1,5 @@
 -- The batches of an answer, read row by row, are the rows that they stand for.
-use Rattle.std.proofs.Common.{◌≡◌, ◌∙◌, sym, ap, refl, subst, ℕ, zero, suc, ◌+◌, ◌≤◌, List, [], ◌∷◌, ◌++◌, Bool, true, false, cond, not, length, take, map, arith, add-one}
+use Rattle.std.proofs.Common.{◌≡◌, ◌∙◌, sym, ap, refl, subst, ℕ, zero, suc, ◌+◌, List, [], ◌∷◌, ◌++◌, Bool, true, false, cond, not, length, take, map, arith, add-one}
 use Rattle.std.specs.Prelude.{Option, Some, None, is_some, find, filter, flat_map, slice_get, unwrap_or}
 use Rattle.std.specs.List.{cons_option, enumerate_from, filter_map, range_with_len}
 use Rattle.std.specs.Str.{bytes_eq}
@@ -16,18 +16,20 @@ use Rattle.vortex_table.specs.declared.scan.request.ScanRequest.{ScanRequest}
 use Rattle.vortex_table.specs.Valid.{first_unknown, projection_names}
 use Rattle.vortex_table.specs.Table.{Decoded, decoded, row_at}
 use Rattle.vortex_table.specs.Chosen.{Placed, all_rows, chosen, is_chosen, lies_in, projected, projected_names, projected_types, rows_in}
-use Rattle.vortex_table.specs.Answers.{Answers, Asked, Given, IsPrefix, asked, columns_of, stands_for, within}
+use Rattle.vortex_table.specs.Answers.{Asked, Given, IsPrefix, asked, columns_of, stands_for}
 use Rattle.vortex_table.specs.Turn.{batch_rows}
-use Rattle.vortex_table.specs.Laws.{AnswerIsItsRows, ChosenRowsAreFull, OrderedAnswerIsFirstRows, RowsAreFull}
-use Rattle.vortex_table.proofs.Rising.{Each, each_at, each_filter, each_map, each_more}
+use Rattle.vortex_table.specs.Laws.{AnswerIsItsRows, ChosenRowsAreFull, OrderedAnswerIsFirstRows}
+use Rattle.vortex_table.proofs.Rising.{Each, each_any, each_at, each_filter, each_map, each_more}
 use Rattle.vortex_table.proofs.Whole.{all_each}
 
 -- ---- lists
 
+-- two changes in turn are one
 map_map : {X Y Z : Type 0} (f : Y → Z) (g : X → Y) (xs : List X) → map f (map g xs) ≡ map (λ x. f (g x)) xs
 map_map f g [] = refl
 map_map f g (x ∷ xs) = ap (λ r. f (g x) ∷ r) (map_map f g xs)
 
+-- changes that agree give one list
 map_same : {X Y : Type 0} (f g : X → Y) → ((x : X) → f x ≡ g x) → (xs : List X) → map f xs ≡ map g xs
 map_same f g e [] = refl
 map_same f g e (x ∷ xs) = ap (λ y. y ∷ map f xs) (e x) ∙ ap (λ r. g x ∷ r) (map_same f g e xs)
@@ -37,19 +39,18 @@ numbers_shift : {X Y : Type 0} (f g : ℕ → Y) → ((i : ℕ) → f (suc i) �
 numbers_shift f g e n [] = refl
 numbers_shift f g e n (x ∷ xs) = ap (λ y. y ∷ map (λ t. f t.0) (enumerate_from (n + 1 + 1) xs)) (ap f (add-one n) ∙ e n) ∙ ap (λ r. g n ∷ r) (numbers_shift f g e (n + 1) xs)
 
+-- the same over numbers alone
 range_shift : {Y : Type 0} (f g : ℕ → Y) → ((i : ℕ) → f (suc i) ≡ g i) → (n m : ℕ) → map f (range_with_len (n + 1) m) ≡ map g (range_with_len n m)
 range_shift f g e n zero = refl
 range_shift f g e n (suc m) = ap (λ y. y ∷ map f (range_with_len (n + 1 + 1) m)) (ap f (add-one n) ∙ e n) ∙ ap (λ r. g n ∷ r) (range_shift f g e (n + 1) m)
 
+-- what holds of each element holds of the first ones
 each_take : {X : Type 0} (P : X → Type 0) (n : ℕ) (xs : List X) → Each P xs → Each P (take n xs)
 each_take P zero xs e = tt
 each_take P (suc n) [] e = tt
 each_take P (suc n) (x ∷ xs) e = (e.0, each_take P n xs e.1)
 
-each_any : {X : Type 0} (P : X → Type 0) → ((x : X) → P x) → (xs : List X) → Each P xs
-each_any P f [] = tt
-each_any P f (x ∷ xs) = (f x, each_any P f xs)
-
+-- and of each in the first part of a joined list
 each_left : {X : Type 0} (P : X → Type 0) (xs ys : List X) → Each P (xs ++ ys) → Each P xs
 each_left P [] ys e = tt
 each_left P (x ∷ xs) ys e = (e.0, each_left P xs ys e.1)
@@ -71,9 +72,11 @@ values_back (v ∷ values) (t ∷ types) h = ap (λ r. v ∷ r) (numbers_shift (
 abbrev read_at : List DType → List Placed → ℕ → Row
 read_at types part i = map (λ t. value_at (map (λ x. value_at x.values t.0) part) i) (enumerate_from 0 types)
 
+-- it is read across the columns
 read_is : (types : List DType) (part : List Placed) (i : ℕ) → row_at (columns_of types part) i ≡ read_at types part i
 read_is types part i = map_map (λ c. value_at c.rows i) (λ t. record { dtype = t.1; rows = map (λ x. value_at x.values t.0) part }) (enumerate_from 0 types)
 
+-- read row by row, columns made of rows give these back
 rows_back : (types : List DType) (part : List Placed) → Each (λ x. length x.values ≡ length types) part → map (read_at types part) (range_with_len 0 (length part)) ≡ map (λ x. x.values) part
 rows_back types [] e = refl
 rows_back types (x ∷ part) e =
@@ -83,6 +86,7 @@ rows_back types (x ∷ part) e =
 -- ---- batches
 
 module _ (a : Asked) (full : Each (λ x. length x.values ≡ length a.types) a.rows) where
+  -- a batch, read row by row, is the rows that it stands for
   one_batch : (b : Given) → IsPrefix a b → batch_rows b ≡ map (λ x. x.values) (stands_for a.rows b)
   one_batch b p =
       let part : List Placed = stands_for a.rows b in
@@ -92,6 +96,7 @@ module _ (a : Asked) (full : Each (λ x. length x.values ≡ length a.types) a.r
       ∙ map_same (row_at (columns_of a.types part)) (read_at a.types part) (read_is a.types part) (range_with_len 0 (length part))
       ∙ rows_back a.types part (each_take (λ x. length x.values ≡ length a.types) b.rows (rows_in b.scope a.rows) (each_filter (λ x. length x.values ≡ length a.types) (lies_in b.scope) a.rows full))
 
+  -- and so are several, joined
   batches_joined : (bs : List Given) → Each (λ b. IsPrefix a b) bs → flat_map batch_rows bs ≡ map (λ x. x.values) (flat_map (stands_for a.rows) bs)
   batches_joined [] e = refl
   batches_joined (b ∷ bs) e =
@@ -99,15 +104,18 @@ module _ (a : Asked) (full : Each (λ x. length x.values ≡ length a.types) a.r
       ∙ ap (λ r. map (λ x. x.values) (stands_for a.rows b) ++ r) (batches_joined bs e.1)
       ∙ sym (map-append (λ x. x.values) (stands_for a.rows b) (flat_map (stands_for a.rows) bs))
 
+-- the batches of an answer, read row by row, are the rows of L that they stand for
 pub answer_joined : AnswerIsItsRows
 answer_joined a batches full answer = batches_joined a (all_each (λ x. length x.values ≡ length a.types) a.rows full) batches (all_each (λ b. IsPrefix a b) batches answer.prefixes)
 
+-- in order they are the first rows of L, up to the limit
 pub ordered_joined : OrderedAnswerIsFirstRows
 ordered_joined a batches full ordered answer =
     answer_joined a batches full answer ∙ ap (λ xs. map (λ x. x.values) xs) ((answer.in_order ordered).joined ∙ ap (λ n. take n a.rows) answer.counted)
 
 -- ---- the chosen rows
 
+-- some column has the name
 abbrev IsKnown : List ColumnDesc → List ℕ → Type 0
 IsKnown columns name = is_some (dtype_of columns name) ≡ true
 
@@ -120,6 +128,7 @@ length_found {X} {Y} h (x ∷ xs) e = by (h x) e.0 (length_found h xs e.1)
     by None k f = cc
     by (Some y) k f = ap suc f
 
+-- where a search finds nothing, no element passes
 none_found : {X : Type 0} (p : X → Bool) (xs : List X) → find p xs ≡ None → Each (λ x. p x ≡ false) xs
 none_found p [] e = tt
 none_found {X} p (x ∷ xs) e = by (p x) refl (none_found p xs) e
@@ -128,10 +137,12 @@ none_found {X} p (x ∷ xs) e = by (p x) refl (none_found p xs) e
     by true q f e = cc
     by false q f e = (q, f e)
 
+-- what is not missing is there
 is_known : (o : Option DType) → not (is_some o) ≡ false → is_some o ≡ true
 is_known None e = cc
 is_known (Some t) e = refl
 
+-- a name is equal to itself
 own_name : (name : List ℕ) → bytes_eq name name ≡ true
 own_name name = (bytes_eq-Decides name name).1 refl
 
@@ -156,6 +167,7 @@ as_wide request table known =
     (λ x u. length-map names (cell_of table.columns x.values) ∙ sym (length_found (dtype_of table.columns) names known))
     (filter (is_chosen request table.columns) (all_rows table.partitions)) (each_any (λ x. Unit {0}) (λ x. tt) (filter (is_chosen request table.columns) (all_rows table.partitions)))
 
+-- the projected names are known where the listed ones are
 names_known : (columns : List ColumnDesc) (names : Projection) → Each (IsKnown columns) (projection_names names) → Each (IsKnown columns) (projected_names columns names)
 names_known columns projection.All e = each_map (λ c. IsKnown columns c.name) (IsKnown columns) (λ c. c.name) (λ c k. k) columns (own_names columns)
 names_known columns (projection.Columns names) e = e
@@ -176,6 +188,7 @@ pub chosen_wide_all : (request : ScanRequest) (table : Decoded) → request.proj
 chosen_wide_all request table all =
     as_wide request table (names_known table.columns request.projection (subst (λ p. Each (IsKnown table.columns) (projection_names p)) (sym all) tt))
 
+-- so with the question that a request asks
 pub chosen_full : ChosenRowsAreFull
 chosen_full columns partitions contents request none =
     let a : Asked = asked columns partitions contents request in

@@ -1,7 +1,7 @@
 -- The batches in turn, up to the limit, are an answer.
-use Rattle.std.proofs.Common.{◌≡◌, ◌∙◌, sym, ap, subst, refl, ℕ, zero, suc, ◌+◌, ◌-◌, ◌<◌, ◌≤◌, List, [], ◌∷◌, ◌++◌, Bool, true, false, cond, length, take, map, arith, inl, inr, min}
+use Rattle.std.proofs.Common.{◌≡◌, ◌∙◌, sym, ap, subst, refl, ℕ, zero, suc, ◌+◌, ◌-◌, ◌<◌, ◌≤◌, List, [], ◌∷◌, ◌++◌, Bool, true, false, cond, length, take, map, arith, inl, inr}
 use mathlib.Core.Logic.{⊎_elim}
-use Rattle.std.specs.Prelude.{All, AllPairs, Contains, Option, Some, None, nat_lt, filter, flat_map, ◌≢◌}
+use Rattle.std.specs.Prelude.{AllPairs, Contains, Option, Some, None, nat_lt, filter, flat_map, ◌≢◌}
 use Rattle.std.specs.List.{AllZip}
 use Rattle.std.proofs.lemmas.List.{length-append, length-take, take_all}
 use Rattle.vortex_array.specs.declared.types.DType.{DType}
@@ -11,7 +11,7 @@ use Rattle.vortex_table.specs.declared.scan.batch.WorkScope.{WorkScope}
 use Rattle.vortex_table.specs.declared.scan.request.ScanRequest.{ScanRequest}
 use Rattle.vortex_table.specs.Table.{Content, FitsPartition, decoded, scopes_from}
 use Rattle.vortex_table.specs.Chosen.{Placed, chosen, lies_in, projected_types, rows_in}
-use Rattle.vortex_table.specs.Answers.{Answers, Asked, Given, InOrder, IsBefore, IsPrefix, asked, columns_of, count_of, stands_for, within}
+use Rattle.vortex_table.specs.Answers.{Answers, Asked, Given, IsBefore, IsPrefix, asked, columns_of, count_of, stands_for, within}
 use Rattle.vortex_table.specs.Laws.{EachQuestionHasAnAnswer}
 use Rattle.vortex_table.specs.Turn.{given_of, in_turn}
 use Rattle.vortex_table.proofs.Rising.{Each, Rising, each_at, each_more, pairs}
@@ -34,6 +34,7 @@ take_both (suc n) [] ys = let e : suc n ≡ suc n - 0 = omega arith in ap (λ k.
 take_both zero (x ∷ xs) ys = let e : 0 ≡ 0 - suc (length xs) = omega arith in ap (λ k. take k ys) e
 take_both (suc n) (x ∷ xs) ys = let e : n - length xs ≡ suc n - suc (length xs) = omega arith in ap (λ r. x ∷ r) (take_both n xs ys ∙ ap (λ k. take n xs ++ take k ys) e)
 
+-- a successor is above zero
 positive : (n : ℕ) → nat_lt 0 (suc n) ≡ true
 positive n = grind arith
 
@@ -53,12 +54,15 @@ has_rows s (x ∷ rows) h = by (lies_in s x) refl (has_rows s rows) h
     by true e f h = let w : Within s x = lies_within s x e in omega (arith, w.from, w.below)
     by false e f h = f h
 
+-- of a split with rows: it stands before those behind its end
 before_past : (s t : WorkScope) → s.rows.start < s.rows.end → Past s t → IsBefore s t
 before_past s t h p = ⊎_elim (λ l. inl l) (λ l. inr (l.0, omega (arith, h, l.1))) p
 
+-- no split stands before itself
 not_before : (s : WorkScope) → IsBefore s s → ⊥
 not_before s p = ⊎_elim (λ l. omega (arith, l)) (λ l. omega (arith, l.1)) p
 
+-- a split is none of those that it stands before
 before_apart : (s t : WorkScope) → IsBefore s t → s ≢ t
 before_apart s t p e = not_before t (subst (λ u. IsBefore u t) e p)
 
@@ -75,6 +79,7 @@ module _ (types : List DType) (rows : List Placed) where
   turns n [] = []
   turns n (s ∷ scopes) = next s (take n (rows_in s rows)) (turns (n - length (rows_in s rows)) scopes)
 
+  -- a test for rows and then the batch of all of them: the next batch
   all_of : (s : WorkScope) (scopes : List WorkScope) (part : List Placed) → part ≡ rows_in s rows
       → map (λ t. given_of types t (rows_in t rows)) (cond (nat_lt 0 (length part)) (s ∷ filter (λ t. nat_lt 0 (length (rows_in t rows))) scopes) (filter (λ t. nat_lt 0 (length (rows_in t rows))) scopes))
       ≡ next s part (in_turn types rows scopes)
@@ -101,6 +106,7 @@ module _ (types : List DType) (rows : List Placed) where
       by [] f = f
       by (x ∷ part) f = (e.0, f)
 
+  -- each batch has a row
   turns_filled : (n : ℕ) (scopes : List WorkScope) → Each (λ b. 0 < b.rows) (turns n scopes)
   turns_filled n [] = tt
   turns_filled n (s ∷ scopes) = by (take n (rows_in s rows)) (turns_filled (n - length (rows_in s rows)) scopes)
@@ -109,6 +115,7 @@ module _ (types : List DType) (rows : List Placed) where
       by [] f = f
       by (x ∷ part) f = (omega arith, f)
 
+  -- the batches stand in order
   turns_rise : (n : ℕ) (scopes : List WorkScope) → Rising Past scopes → Rising (λ b c. IsBefore b.scope c.scope) (turns n scopes)
   turns_rise n [] r = tt
   turns_rise n (s ∷ scopes) r = by (take n (rows_in s rows)) refl (turns_rise (n - length (rows_in s rows)) scopes r.1)
@@ -120,6 +127,7 @@ module _ (types : List DType) (rows : List Placed) where
           let some : 0 < length (rows_in s rows) = omega (arith, ap length e, length-take n (rows_in s rows)) in
           (scopes_kept (IsBefore s) (n - length (rows_in s rows)) scopes (each_more (Past s) (IsBefore s) (λ t p. before_past s t (has_rows s rows some) p) scopes r.0), f)
 
+  -- a batch stands for the rows that it was made of
   stands : (n : ℕ) (s : WorkScope) (part : List Placed) → part ≡ take n (rows_in s rows) → take (length part) (rows_in s rows) ≡ part
   stands n s part e = ap (λ p. take (length p) (rows_in s rows)) e ∙ taken n (rows_in s rows) ∙ sym e
 
@@ -137,6 +145,7 @@ module _ (types : List DType) (rows : List Placed) where
       by (x ∷ part) e rest = ap (λ p. p ++ flat_map (stands_for rows) rest) (stands n s (x ∷ part) e)
 
 module _ (a : Asked) where
+  -- each batch is a prefix of the rows of L in its split
   turns_prefix : (n : ℕ) (scopes : List WorkScope) → Each (λ b. IsPrefix a b) (turns a.types a.rows n scopes)
   turns_prefix n [] = tt
   turns_prefix n (s ∷ scopes) = by (take n (rows_in s a.rows)) refl (turns_prefix (n - length (rows_in s a.rows)) scopes)
@@ -152,12 +161,14 @@ module _ (a : Asked) where
         f,
       )
 
+  -- such batches have as many rows together as they stand for
   prefixes_counted : (bs : List Given) → Each (λ b. IsPrefix a b) bs → counted bs ≡ length (flat_map (stands_for a.rows) bs)
   prefixes_counted [] e = refl
   prefixes_counted (b ∷ bs) e =
       let k : b.rows ≤ length (rows_in b.scope a.rows) = e.0.rows in
       omega (arith, prefixes_counted bs e.1, length-append (stands_for a.rows b) (flat_map (stands_for a.rows) bs), length-take b.rows (rows_in b.scope a.rows), k)
 
+  -- a limit raises no number
   within_length : (o : Option ℕ) (n : ℕ) → within o n ≤ n
   within_length None n = omega arith
   within_length (Some m) n = omega arith

@@ -64,16 +64,16 @@ EachQuestionHasAnAnswer = (columns : List ColumnDesc) (partitions : List Partiti
 abbrev pub RowsAreFull : Asked → Type 0
 RowsAreFull a = All (λ x. length x.values ≡ length a.types) a.rows
 
--- so they have where every name is known
+-- where every name is known, each row of L has a value for each projected type
 abbrev pub ChosenRowsAreFull : Type 0
 ChosenRowsAreFull = (columns : List ColumnDesc) (partitions : List PartitionDesc) (contents : List Content) (request : ScanRequest) → first_unknown columns request ≡ None
     → RowsAreFull (asked columns partitions contents request)
 
--- then the batches of an answer, read row by row, are the rows of L that they stand for
+-- the batches of an answer, read row by row, are the rows of L that they stand for
 abbrev pub AnswerIsItsRows : Type 0
 AnswerIsItsRows = (a : Asked) (batches : List Given) → RowsAreFull a → Answers a batches → flat_map batch_rows batches ≡ map (λ x. x.values) (flat_map (stands_for a.rows) batches)
 
--- and those of an ordered answer are the first rows of L, up to the limit
+-- the batches of an ordered answer, read row by row, are the first rows of L, up to the limit
 abbrev pub OrderedAnswerIsFirstRows : Type 0
 OrderedAnswerIsFirstRows = (a : Asked) (batches : List Given) → RowsAreFull a → a.ordered ≡ true → Answers a batches
     → flat_map batch_rows batches ≡ map (λ x. x.values) (take (within a.limit (length a.rows)) a.rows)

@@ -115,7 +115,7 @@ length_split : (split : SplitDesc) (columns : List Column) → length (split_row
 length_split split columns = length-map-range_with_len (row_at columns) 0 split.rows
 
 -- the rows of these splits, joined
-abbrev rows_of : List SplitDesc → Content → List Row
+abbrev pub rows_of : List SplitDesc → Content → List Row
 rows_of splits content = flat_map (λ s. split_rows s.0 s.1) (zip splits content)
 
 -- the first split's rows, and then those of the others
@@ -178,7 +178,7 @@ flat_zip f (x ∷ xs) [] r = absurd r
 flat_zip f (x ∷ xs) (y ∷ ys) r = ap (λ z. z ++ flat_map f xs) r.0 ∙ ap (λ z. y ++ z) (flat_zip f xs ys r.1)
 
 -- the rows of each partition that a description and its content make
-abbrev rows_by : List PartitionDesc → List Content → List (List Row)
+abbrev pub rows_by : List PartitionDesc → List Content → List (List Row)
 rows_by partitions contents = map (λ p. partition_rows p.0 p.1) (zip partitions contents)
 
 -- the rows of each split of the table, the first partition's number being p

@@ -1,4 +1,4 @@
-use Rattle.std.proofs.Common.{◌≡◌, ◌+◌, length, arith, ap}
+use Rattle.std.proofs.Common.{◌≡◌, ◌+◌, length, arith}
 use Rattle.vortex_io.proofs.Without.{length-without}
 use Rattle.vortex_io.proofs.tests.drained.Goals as goal
 

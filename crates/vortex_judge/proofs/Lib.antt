@@ -1,0 +1,5 @@
+pub mod Patterns
+pub mod Places
+pub mod Names
+pub mod Parts
+pub mod Turns

@@ -11,3 +11,6 @@ pub mod Described
 pub mod State
 pub mod Built
 pub mod Kept
+pub mod Given
+pub mod Fetching
+pub mod Scanning

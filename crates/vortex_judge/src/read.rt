@@ -2,12 +2,15 @@
 ghost use Rattle.std.specs.Prelude.{◌≡◌, IfOk, None, Some, map, pos};
 ghost use Rattle.vortex_array.specs.ColumnOf.{column_of};
 ghost use Rattle.vortex_array.specs.declared.scalar.Value.TheVariants.{Int};
+ghost use Rattle.vortex_io.specs.Memory.{columns_of};
+ghost use Rattle.vortex_table.specs.ChunkOf.{chunk_column, content_of};
+ghost use Rattle.vortex_table.specs.Given.{given};
 
-use crate::batch::{PlainBatch, PlainColumn};
+use crate::batch::{PlainBatch, PlainColumn, PlainContent, PlainSplit};
 use crate::rows::PlainRow;
 use std::alloc::{AllocError, Global};
 use vortex_array::{Array, PrimitiveArray, PrimitiveBuffer, RecordBatch, Validity, Value};
-use vortex_table::{Batch, WorkScope};
+use vortex_table::{Batch, Chunk, WorkScope};
 
 // The numbers as rows.
 fn present_rows(alloc: Global, numbers: &[u64]) -> Result<PlainRow, AllocError>
@@ -45,6 +48,36 @@ pub fn read_column(alloc: Global, array: &Array) -> Result<PlainColumn, AllocErr
     Ok(PlainColumn::new(array.dtype(), rows))
 }
 
+// The column that a chunk stands for.
+fn read_chunk(alloc: Global, chunk: &Chunk) -> Result<PlainColumn, AllocError>
+    ensures { IfOk result (λ c. c ≡ chunk_column chunk.now) }
+{
+    let Chunk::Plain(array) = chunk;
+    read_column(alloc, array)
+}
+
+// The chunks of a split, seen as columns.
+fn read_split(alloc: Global, chunks: &[Chunk]) -> Result<PlainSplit, AllocError>
+    ensures { IfOk result (λ s. s ≡ map chunk_column chunks.now) }
+{
+    let mut columns = Vec::new(alloc);
+    for chunk in chunks {
+        columns.push(read_chunk(alloc, chunk)?)?;
+    }
+    Ok(PlainSplit::new(columns))
+}
+
+/// The content of chunks by split and by column.
+pub fn read_content(alloc: Global, chunks: &[Vec<Chunk>]) -> Result<PlainContent, AllocError>
+    ensures { IfOk result (λ c. c ≡ content_of (map columns_of chunks.now)) }
+{
+    let mut splits = Vec::new(alloc);
+    for columns in chunks {
+        splits.push(read_split(alloc, columns.as_slice())?)?;
+    }
+    Ok(PlainContent::new(splits))
+}
+
 // The columns of a batch of rows.
 fn read_columns(alloc: Global, array: &RecordBatch) -> Result<Vec<PlainColumn>, AllocError>
     ensures { IfOk result (λ v. v.items ≡ map column_of array.now.columns) }
@@ -58,7 +91,7 @@ fn read_columns(alloc: Global, array: &RecordBatch) -> Result<Vec<PlainColumn>, 
 
 /// A scan's batch as its scope, its number of rows and its columns.
 pub fn read_batch(alloc: Global, batch: &Batch) -> Result<PlainBatch, AllocError>
-    ensures { IfOk result (λ b. b ≡ record { scope = batch.now.scope; rows = batch.now.array.rows; columns = map column_of batch.now.array.columns }) }
+    ensures { IfOk result (λ b. b ≡ given batch.now) }
 {
     let columns = read_columns(alloc, &batch.array)?;
     let scope = WorkScope {

@@ -2,6 +2,7 @@
 mod choosing;
 mod filtering;
 mod judging;
+mod scanning;
 
 use crate::{PlacedRow, PlainRow, PlainRows, PlainTable};
 use std::alloc::{AllocError, Global};
@@ -10,7 +11,7 @@ use vortex_array::{
     ColumnDesc, CompareOperator, DType, Filter, Name, Nullability, Operand, PType, Scalar, Text,
     Value,
 };
-use vortex_table::WorkScope;
+use vortex_table::{ScanRequest, WorkScope};
 
 pub const U64: DType = DType::Primitive(PType::U64, Nullability::NonNullable);
 
@@ -55,6 +56,13 @@ pub fn compare(
 /// Whether the column is above a number of the column's type.
 pub fn above(alloc: Global, text: &str, dtype: DType, number: i128) -> Result<Filter, Fail> {
     compare(alloc, CompareOperator::Gt, text, dtype, number)
+}
+
+/// A request for the rows that a filter keeps.
+pub fn filtered(filter: Filter) -> ScanRequest {
+    let mut request = ScanRequest::default();
+    request.filter = Some(filter);
+    request
 }
 
 pub fn desc(alloc: Global, text: &str, dtype: DType) -> Result<ColumnDesc, AllocError> {

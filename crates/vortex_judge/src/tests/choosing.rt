@@ -1,20 +1,17 @@
 // Which rows requests choose.
 use super::{
-    I32_OR_NULL, NULL, U64, above, cells, column, compare, constant, desc, name, numbers, rows_of,
-    scope, table_of,
+    I32_OR_NULL, NULL, U64, above, column, constant, desc, filtered, name, numbers, rows_of, scope,
+    table_of,
 };
-use crate::{
-    PlacedRow, PlainBatch, PlainColumn, PlainContent, PlainSplit, PlainTable, Question, answers,
-    are_small, ask, chosen_rows,
-};
+use crate::{PlacedRow, PlainBatch, PlainTable, Question, answers, are_small, chosen_rows};
 use sqlite_items::Boxed;
 use std::alloc::{AllocError, Global};
+use std::ops::Range;
 use std::test::Fail;
-use vortex_array::{CompareOperator, Filter, Value};
+use vortex_array::{CompareOperator, Filter, Name, Value};
 use vortex_buffer::{Buffer, Items};
 use vortex_table::{
-    ChunkDesc, Names, PartitionDesc, Projection, ScanRequest, Selection, SplitDesc,
-    StrictSortedBuffer,
+    Names, PartitionDesc, Projection, ScanRequest, Selection, SplitDesc, StrictSortedBuffer,
 };
 
 fn not(alloc: Global, filter: Filter) -> Result<Filter, AllocError> {
@@ -25,106 +22,163 @@ fn listed(alloc: Global, places: &[u64]) -> Result<StrictSortedBuffer<u64>, Fail
     Ok(StrictSortedBuffer::try_new(Buffer::from_slice(alloc, places)?)?)
 }
 
-fn include(alloc: Global, places: &[u64]) -> Result<Selection, Fail> {
-    Ok(Selection::IncludeByIndex(listed(alloc, places)?))
+// The places of a selection.
+#[derive(Clone, Copy)]
+enum Places<'a> {
+    All,
+    Only(&'a [u64]),
+    AllBut(&'a [u64]),
 }
 
-fn exclude(alloc: Global, places: &[u64]) -> Result<Selection, Fail> {
-    Ok(Selection::ExcludeByIndex(listed(alloc, places)?))
+fn selection_of(alloc: Global, places: Places) -> Result<Selection, Fail> {
+    match places {
+        Places::All => Ok(Selection::All),
+        Places::Only(places) => Ok(Selection::IncludeByIndex(listed(alloc, places)?)),
+        Places::AllBut(places) => Ok(Selection::ExcludeByIndex(listed(alloc, places)?)),
+    }
 }
 
-fn is_null(alloc: Global) -> Result<Filter, AllocError> {
-    Ok(Filter::IsNull(column(alloc, "qty")?))
+fn range_of(bounds: Option<(u64, u64)>) -> Option<Range<u64>> {
+    match bounds {
+        Some((start, end)) => Some(start..end),
+        None => None,
+    }
+}
+
+// The numbers that a filter keeps of 3, null and 1.
+fn kept(alloc: Global, filter: Filter) -> Result<Vec<i128>, AllocError> {
+    let request = filtered(filter);
+    kept_by(alloc, &request)
+}
+
+fn kept_by(alloc: Global, request: &ScanRequest) -> Result<Vec<i128>, AllocError> {
+    let table = table_of(alloc, "qty", I32_OR_NULL, &[3, NULL, 1])?;
+    chosen_numbers(alloc, request, &table)
+}
+
+fn chosen_numbers(
+    alloc: Global,
+    request: &ScanRequest,
+    table: &PlainTable,
+) -> Result<Vec<i128>, AllocError> {
+    let rows = chosen_rows(alloc, request, table)?;
+    numbers(alloc, &rows)
 }
 
 fn is_big(alloc: Global) -> Result<Filter, Fail> {
     above(alloc, "qty", I32_OR_NULL, 2)
 }
 
+fn is_null(alloc: Global) -> Result<Filter, AllocError> {
+    Ok(Filter::IsNull(column(alloc, "qty")?))
+}
+
+fn equals_null(alloc: Global) -> Result<Filter, Fail> {
+    let null = constant(I32_OR_NULL, None)?;
+    Ok(Filter::Compare(CompareOperator::Eq, column(alloc, "qty")?, null))
+}
+
+fn both(alloc: Global, left: Filter, right: Filter) -> Result<Filter, AllocError> {
+    let left = Boxed::new(alloc, left)?;
+    Ok(Filter::And(left, Boxed::new(alloc, right)?))
+}
+
+fn either(alloc: Global, left: Filter, right: Filter) -> Result<Filter, AllocError> {
+    let left = Boxed::new(alloc, left)?;
+    Ok(Filter::Or(left, Boxed::new(alloc, right)?))
+}
+
 #[test]
 fn filters_with_nulls(rt: HostRuntime) -> Result<(), Fail> {
     let alloc = rt.alloc();
-    let table = table_of(alloc, "qty", I32_OR_NULL, &[3, NULL, 1])?;
-    let same_as_null = Filter::Compare(
-        CompareOperator::Eq,
-        column(alloc, "qty")?,
-        constant(I32_OR_NULL, None)?,
-    );
-    for (case, filter, want) in [
-        ("above 2", is_big(alloc)?, [3].as_slice()),
-        ("not above 2", not(alloc, is_big(alloc)?)?, [1].as_slice()),
-        ("null", is_null(alloc)?, [NULL].as_slice()),
-        ("equal to null", same_as_null, [].as_slice()),
-        (
-            "not 3",
-            compare(alloc, CompareOperator::NotEq, "qty", I32_OR_NULL, 3)?,
-            [1].as_slice(),
-        ),
-        (
-            "above 2 or null",
-            Filter::Or(
-                Boxed::new(alloc, is_big(alloc)?)?,
-                Boxed::new(alloc, is_null(alloc)?)?,
-            ),
-            [3, NULL].as_slice(),
-        ),
-        (
-            "above 2 and not null",
-            Filter::And(
-                Boxed::new(alloc, is_big(alloc)?)?,
-                Boxed::new(alloc, not(alloc, is_null(alloc)?)?)?,
-            ),
-            [3].as_slice(),
-        ),
-    ] {
-        let mut request = ScanRequest::default();
-        request.filter = Some(filter);
-        let rows = chosen_rows(alloc, &request, &table)?;
-        assert_eq!(rt; numbers(alloc, &rows)?.as_slice(), want, "{case}");
-    }
+    let big = kept(alloc, is_big(alloc)?)?;
+    assert_eq!(rt; big.as_slice(), [3].as_slice(), "above 2");
+    let not_big = kept(alloc, not(alloc, is_big(alloc)?)?)?;
+    assert_eq!(rt; not_big.as_slice(), [1].as_slice(), "not above 2");
+    let null = kept(alloc, is_null(alloc)?)?;
+    assert_eq!(rt; null.as_slice(), [NULL].as_slice(), "null");
     Ok(())
+}
+
+#[test]
+fn comparisons_with_null_keep_no_row(rt: HostRuntime) -> Result<(), Fail> {
+    let alloc = rt.alloc();
+    let same = kept(alloc, equals_null(alloc)?)?;
+    assert_eq!(rt; same.as_slice(), [].as_slice(), "equal to null");
+    let other = kept(alloc, not(alloc, equals_null(alloc)?)?)?;
+    assert_eq!(rt; other.as_slice(), [].as_slice(), "not equal to null");
+    Ok(())
+}
+
+#[test]
+fn filters_joined_over_nulls(rt: HostRuntime) -> Result<(), Fail> {
+    let alloc = rt.alloc();
+    let any = kept(alloc, either(alloc, is_big(alloc)?, is_null(alloc)?)?)?;
+    assert_eq!(rt; any.as_slice(), [3, NULL].as_slice(), "above 2 or null");
+    let all = kept(alloc, both(alloc, is_big(alloc)?, is_null(alloc)?)?)?;
+    assert_eq!(rt; all.as_slice(), [].as_slice(), "above 2 and null");
+    Ok(())
+}
+
+// A request for rows in a range and a selection.
+fn rows_at(bounds: Option<(u64, u64)>, places: Selection) -> ScanRequest {
+    let mut request = ScanRequest::default();
+    request.row_range = range_of(bounds);
+    request.selection = places;
+    request
+}
+
+// A request for partitions in a range and a selection.
+fn partitions_at(bounds: Option<(u64, u64)>, places: Selection) -> ScanRequest {
+    let mut request = ScanRequest::default();
+    request.partition_range = range_of(bounds);
+    request.partition_selection = places;
+    request
+}
+
+// The numbers that a request chooses of 10, 11 and 12.
+fn numbers_at(alloc: Global, request: &ScanRequest) -> Result<Vec<i128>, AllocError> {
+    let table = table_of(alloc, "a", U64, &[10, 11, 12])?;
+    chosen_numbers(alloc, request, &table)
 }
 
 #[test]
 fn ranges_and_selections(rt: HostRuntime) -> Result<(), Fail> {
     let alloc = rt.alloc();
-    let table = table_of(alloc, "a", U64, &[10, 11, 12])?;
-    for (case, range, selection, want) in [
-        ("all", None, Selection::All, [10, 11, 12].as_slice()),
+    for (case, bounds, places, want) in [
+        ("all", None, Places::All, [10, 11, 12].as_slice()),
         (
             "a start past its end",
-            Some(5..2),
-            Selection::All,
+            Some((5, 2)),
+            Places::All,
             [].as_slice(),
         ),
-        ("a range", Some(1..2), Selection::All, [11].as_slice()),
+        ("a range", Some((1, 2)), Places::All, [11].as_slice()),
         (
             "past the end",
-            Some(1..9),
-            Selection::All,
+            Some((1, 9)),
+            Places::All,
             [11, 12].as_slice(),
         ),
-        ("some", None, include(alloc, &[1, 9])?, [11].as_slice()),
+        ("some", None, Places::Only(&[1, 9]), [11].as_slice()),
         (
             "all others",
             None,
-            exclude(alloc, &[1, 9])?,
+            Places::AllBut(&[1, 9]),
             [10, 12].as_slice(),
         ),
-        ("none", None, include(alloc, &[])?, [].as_slice()),
+        ("none", None, Places::Only(&[]), [].as_slice()),
         (
             "all but none",
             None,
-            exclude(alloc, &[])?,
+            Places::AllBut(&[]),
             [10, 11, 12].as_slice(),
         ),
-        ("both", Some(1..3), exclude(alloc, &[1])?, [12].as_slice()),
+        ("both", Some((1, 3)), Places::AllBut(&[1]), [12].as_slice()),
     ] {
-        let mut request = ScanRequest::default();
-        request.row_range = range;
-        request.selection = selection;
-        let rows = chosen_rows(alloc, &request, &table)?;
-        assert_eq!(rt; numbers(alloc, &rows)?.as_slice(), want, "{case}");
+        let request = rows_at(bounds, selection_of(alloc, places)?);
+        let chosen = numbers_at(alloc, &request)?;
+        assert_eq!(rt; chosen.as_slice(), want, "{case}");
     }
     Ok(())
 }
@@ -139,7 +193,7 @@ fn three_partitions(alloc: Global) -> Result<PlainTable, AllocError> {
     Ok(PlainTable::new(columns, partitions))
 }
 
-fn places(alloc: Global, rows: &[PlacedRow]) -> Result<Vec<(u64, u64)>, AllocError> {
+fn places_of(alloc: Global, rows: &[PlacedRow]) -> Result<Vec<(u64, u64)>, AllocError> {
     let mut places = Vec::new(alloc);
     for row in rows {
         places.push((row.partition(), row.row()))?;
@@ -147,128 +201,109 @@ fn places(alloc: Global, rows: &[PlacedRow]) -> Result<Vec<(u64, u64)>, AllocErr
     Ok(places)
 }
 
+// The places of the rows that a request chooses of three partitions.
+fn places_in(alloc: Global, request: &ScanRequest) -> Result<Vec<(u64, u64)>, AllocError> {
+    let table = three_partitions(alloc)?;
+    let rows = chosen_rows(alloc, request, &table)?;
+    places_of(alloc, &rows)
+}
+
 #[test]
 fn ranges_and_selections_of_partitions(rt: HostRuntime) -> Result<(), Fail> {
     let alloc = rt.alloc();
-    let table = three_partitions(alloc)?;
-    for (case, range, selection, want) in [
+    for (case, bounds, places, want) in [
         (
             "all",
             None,
-            Selection::All,
+            Places::All,
             [(0, 0), (0, 1), (2, 0)].as_slice(),
         ),
-        ("a range", Some(1..7), Selection::All, [(2, 0)].as_slice()),
+        ("a range", Some((1, 7)), Places::All, [(2, 0)].as_slice()),
         (
             "some",
             None,
-            include(alloc, &[0])?,
+            Places::Only(&[0]),
             [(0, 0), (0, 1)].as_slice(),
         ),
         (
             "all others",
             None,
-            exclude(alloc, &[0])?,
+            Places::AllBut(&[0]),
             [(2, 0)].as_slice(),
         ),
-        ("both", Some(0..2), exclude(alloc, &[0])?, [].as_slice()),
+        ("both", Some((0, 2)), Places::AllBut(&[0]), [].as_slice()),
     ] {
-        let mut request = ScanRequest::default();
-        request.partition_range = range;
-        request.partition_selection = selection;
-        let rows = chosen_rows(alloc, &request, &table)?;
-        assert_eq!(rt; places(alloc, &rows)?.as_slice(), want, "{case}");
+        let request = partitions_at(bounds, selection_of(alloc, places)?);
+        let chosen = places_in(alloc, &request)?;
+        assert_eq!(rt; chosen.as_slice(), want, "{case}");
     }
     Ok(())
 }
 
-#[test]
-fn empty_and_repeated_projections(rt: HostRuntime) -> Result<(), Fail> {
-    let alloc = rt.alloc();
-    let table = table_of(alloc, "a", U64, &[1, 2, 3])?;
+// A request for the columns of these names.
+fn projected(names: Vec<Name>) -> ScanRequest {
     let mut request = ScanRequest::default();
-    request.projection = Projection::Columns(Names::from_vec(vec![in alloc;
-        name(alloc, "a")?,
-        name(alloc, "a")?,
-    ]?));
-    let rows = chosen_rows(alloc, &request, &table)?;
-    assert_eq!(rt; numbers(alloc, &rows)?.as_slice(), [1, 2, 3].as_slice());
+    request.projection = Projection::Columns(Names::from_vec(names));
+    request
+}
+
+// The rows 1, 2 and 3 under these names.
+fn rows_under(alloc: Global, names: Vec<Name>) -> Result<Vec<PlacedRow>, AllocError> {
+    let request = projected(names);
+    let table = table_of(alloc, "a", U64, &[1, 2, 3])?;
+    chosen_rows(alloc, &request, &table)
+}
+
+#[test]
+fn repeated_projections(rt: HostRuntime) -> Result<(), Fail> {
+    let alloc = rt.alloc();
+    let names = vec![in alloc; name(alloc, "a")?, name(alloc, "a")?]?;
+    let rows = rows_under(alloc, names)?;
+    assert_eq!(rt; rows.len(), 3);
     for row in &rows {
         match row.values() {
             [Some(Value::Int(x)), Some(Value::Int(y))] => assert_eq!(rt; *x, *y),
             _ => assert!(rt; false),
         }
     }
-    request.projection = Projection::Columns(Names::from_vec(Vec::new(alloc)));
-    let rows = chosen_rows(alloc, &request, &table)?;
-    assert_eq!(rt; rows.len(), 3);
-    let scopes = vec![in alloc; scope(0, 3)]?;
-    let question = Question::new(scopes, Vec::new(alloc), rows, None, true);
-    let batches = vec![in alloc; PlainBatch::new(scope(0, 3), 3, Vec::new(alloc))]?;
-    assert!(rt;
-        answers(alloc, &question, &batches)?,
-        "rows without columns"
-    );
     Ok(())
 }
 
-// The description and the content of a split of one column.
-fn described(alloc: Global, numbers: &[i128]) -> Result<(SplitDesc, PlainSplit), AllocError> {
-    let rows = numbers.len() as u64;
-    let chunks = vec![in alloc; ChunkDesc { rows, dtype: U64 }]?;
-    let split = SplitDesc {
-        rows,
-        chunks: Items::from_vec(chunks),
-    };
-    let columns = vec![in alloc; PlainColumn::new(U64, cells(alloc, numbers)?)]?;
-    Ok((split, PlainSplit::new(columns)))
-}
-
-fn batch_of(
-    alloc: Global,
-    start: u64,
-    end: u64,
-    numbers: &[i128],
-) -> Result<PlainBatch, AllocError> {
-    let columns = vec![in alloc; PlainColumn::new(U64, cells(alloc, numbers)?)]?;
-    Ok(PlainBatch::new(scope(start, end), numbers.len() as u64, columns))
+// The question for three rows without columns.
+fn no_columns(alloc: Global) -> Result<Question, AllocError> {
+    let rows = rows_under(alloc, Vec::new(alloc))?;
+    let scopes = vec![in alloc; scope(0, 3)]?;
+    Ok(Question::new(scopes, Vec::new(alloc), rows, None, true))
 }
 
 #[test]
-fn questions_from_chunks(rt: HostRuntime) -> Result<(), Fail> {
+fn empty_projections(rt: HostRuntime) -> Result<(), Fail> {
     let alloc = rt.alloc();
-    let columns = vec![in alloc; desc(alloc, "a", U64)?]?;
-    let (two, first) = described(alloc, &[7, 8])?;
-    let (none, second) = described(alloc, &[])?;
-    let (one, third) = described(alloc, &[9])?;
-    let splits = Items::from_vec(vec![in alloc; two, none, one]?);
-    let partitions = vec![in alloc; PartitionDesc { splits }]?;
-    let contents = vec![in alloc; PlainContent::new(vec![in alloc; first, second, third]?)]?;
-    let mut request = ScanRequest::default();
-    request.filter = Some(above(alloc, "a", U64, 7)?);
-    request.ordered = true;
-    assert!(rt; are_small(&partitions));
-    let question = ask(alloc, columns, &partitions, &contents, &request)?;
-    let batches = vec![in alloc; batch_of(alloc, 0, 2, &[8])?, batch_of(alloc, 2, 3, &[9])?]?;
-    assert!(rt; answers(alloc, &question, &batches)?);
-    let swapped = vec![in alloc; batch_of(alloc, 2, 3, &[9])?, batch_of(alloc, 0, 2, &[8])?]?;
-    assert!(rt; !answers(alloc, &question, &swapped)?);
+    let question = no_columns(alloc)?;
+    for (rows, want) in [(2, false), (3, true), (4, false)] {
+        let batches = vec![in alloc; PlainBatch::new(scope(0, 3), rows, Vec::new(alloc))]?;
+        assert_eq!(rt; answers(alloc, &question, &batches)?, want, "{rows} rows");
+    }
     Ok(())
+}
+
+// A partition of one row, and then so many.
+fn one_and(alloc: Global, last: u64) -> Result<PartitionDesc, AllocError> {
+    let mut splits = Vec::new(alloc);
+    for rows in [1, last] {
+        let chunks = Items::from_vec(Vec::new(alloc));
+        splits.push(SplitDesc { rows, chunks })?;
+    }
+    Ok(PartitionDesc {
+        splits: Items::from_vec(splits),
+    })
 }
 
 #[test]
 fn rows_past_64_bits_are_told(rt: HostRuntime) -> Result<(), Fail> {
     let alloc = rt.alloc();
     for (last, want) in [(18446744073709551614, true), (18446744073709551615, false)] {
-        let mut splits = Vec::new(alloc);
-        for rows in [1, last] {
-            splits.push(SplitDesc {
-                rows,
-                chunks: Items::from_vec(Vec::new(alloc)),
-            })?;
-        }
-        let splits = Items::from_vec(splits);
-        let partitions = vec![in alloc; PartitionDesc { splits }]?;
+        let partitions = vec![in alloc; one_and(alloc, last)?]?;
         assert_eq!(rt; are_small(&partitions), want, "{last}");
     }
     Ok(())

@@ -1,12 +1,14 @@
 // What filters say of rows, and which requests are valid.
-use super::{I32_OR_NULL, TEXT, U64, above, cell, column, constant, desc, name, text};
+use super::{
+    I32_OR_NULL, NULL, TEXT, U64, above, cell, column, constant, desc, filtered, name, text,
+};
 use crate::{and, compares, first_unknown, matches, or, truth_of, well_typed};
 use sqlite_items::Boxed;
 use std::alloc::{AllocError, Global};
 use std::test::Fail;
 use vortex_array::{
-    BetweenOptions, Bytes, CompareOperator, DType, DecimalDType, Filter, Nullability, PType,
-    Scalar, StrictComparison, Value,
+    BetweenOptions, Bytes, ColumnDesc, CompareOperator, DType, DecimalDType, Filter, Nullability,
+    PType, Scalar, StrictComparison, Value,
 };
 use vortex_table::{Names, Projection, ScanRequest};
 
@@ -99,36 +101,40 @@ fn orders_of_texts_and_bytes(rt: HostRuntime) -> Result<(), Fail> {
     Ok(())
 }
 
+// Whether the column `x` is at least the one number and below the other.
+fn between(alloc: Global, lower: i128, upper: i128) -> Result<Filter, Fail> {
+    let options = BetweenOptions {
+        lower_strict: StrictComparison::NonStrict,
+        upper_strict: StrictComparison::Strict,
+    };
+    let lower = constant(I32_OR_NULL, cell(lower))?;
+    let upper = constant(I32_OR_NULL, cell(upper))?;
+    Ok(Filter::Between(options, column(alloc, "x")?, lower, upper))
+}
+
+// The truth of a filter where the column `x` has this number.
+fn truth_at(alloc: Global, filter: &Filter, number: i128) -> Result<Option<bool>, AllocError> {
+    let columns = vec![in alloc; desc(alloc, "x", I32_OR_NULL)?]?;
+    let row = vec![in alloc; cell(number)]?;
+    Ok(truth_of(&columns, &row, filter))
+}
+
 #[test]
 fn bounds_of_between(rt: HostRuntime) -> Result<(), Fail> {
     let alloc = rt.alloc();
-    let columns = vec![in alloc; desc(alloc, "x", I32_OR_NULL)?]?;
     for (lower, number, upper, want) in [
         (1, 1, 3, Some(true)),
         (1, 2, 3, Some(true)),
         (1, 3, 3, Some(false)),
         (1, 0, 3, Some(false)),
-        (1, super::NULL, 3, None),
-        (super::NULL, 2, 3, None),
-        (1, 2, super::NULL, None),
-        (3, 1, super::NULL, None),
+        (1, NULL, 3, None),
+        (NULL, 2, 3, None),
+        (1, 2, NULL, None),
+        (3, 1, NULL, None),
     ] {
-        let options = BetweenOptions {
-            lower_strict: StrictComparison::NonStrict,
-            upper_strict: StrictComparison::Strict,
-        };
-        let filter = Filter::Between(
-            options,
-            column(alloc, "x")?,
-            constant(I32_OR_NULL, cell(lower))?,
-            constant(I32_OR_NULL, cell(upper))?,
-        );
-        let row = vec![in alloc; cell(number)]?;
-        assert_eq!(rt;
-            truth_of(&columns, &row, &filter),
-            want,
-            "{number} from {lower} to {upper}"
-        );
+        let filter = between(alloc, lower, upper)?;
+        let truth = truth_at(alloc, &filter, number)?;
+        assert_eq!(rt; truth, want, "{number} from {lower} to {upper}");
     }
     Ok(())
 }
@@ -167,57 +173,73 @@ fn decimals_of_two_scales_are_two_types(rt: HostRuntime) -> Result<(), Fail> {
     Ok(())
 }
 
+fn two_columns(alloc: Global) -> Result<Vec<ColumnDesc>, AllocError> {
+    let mut columns = Vec::new(alloc);
+    columns.push(desc(alloc, "a", U64)?)?;
+    columns.push(desc(alloc, "t", TEXT)?)?;
+    Ok(columns)
+}
+
+// Whether a filter on a number `a` and a text `t` meets the type rules.
+fn is_typed(alloc: Global, filter: Filter) -> Result<bool, AllocError> {
+    let filter = Some(filter);
+    meets_rules(alloc, &filter)
+}
+
+fn meets_rules(alloc: Global, filter: &Option<Filter>) -> Result<bool, AllocError> {
+    let columns = two_columns(alloc)?;
+    Ok(well_typed(&columns, filter))
+}
+
+// Whether the column matches any text.
+fn like_any(alloc: Global, name: &str) -> Result<Filter, Fail> {
+    let pattern = constant(TEXT, Some(text(alloc, "%")?))?;
+    Ok(Filter::Like(column(alloc, name)?, pattern))
+}
+
+// Whether one text column matches another.
+fn like_column(alloc: Global) -> Result<Filter, AllocError> {
+    let pattern = column(alloc, "t")?;
+    Ok(Filter::Like(column(alloc, "t")?, pattern))
+}
+
+fn truth(alloc: Global) -> Result<Filter, AllocError> {
+    Ok(Filter::Truth(column(alloc, "a")?))
+}
+
+fn part_breaks_a_rule(alloc: Global) -> Result<Filter, Fail> {
+    let right = Boxed::new(alloc, truth(alloc)?)?;
+    let left = Boxed::new(alloc, above(alloc, "a", U64, 1)?)?;
+    Ok(Filter::Or(left, right))
+}
+
 #[test]
 fn rules_of_types(rt: HostRuntime) -> Result<(), Fail> {
     let alloc = rt.alloc();
-    let columns = vec![in alloc; desc(alloc, "a", U64)?, desc(alloc, "t", TEXT)?]?;
-    let u64_or_null = DType::Primitive(PType::U64, Nullability::Nullable);
-    for (case, filter, want) in [
+    for (case, width, nullability, want) in [
+        ("one type", PType::U64, Nullability::NonNullable, true),
         (
             "another nullability",
-            above(alloc, "a", u64_or_null, 1)?,
+            PType::U64,
+            Nullability::Nullable,
             true,
         ),
-        ("another width", above(alloc, "a", I32_OR_NULL, 1)?, false),
-        ("a number alone", Filter::Truth(column(alloc, "a")?), false),
-        (
-            "null of any type",
-            Filter::IsNull(column(alloc, "a")?),
-            true,
-        ),
-        (
-            "a pattern from a column",
-            Filter::Like(column(alloc, "t")?, column(alloc, "t")?),
-            false,
-        ),
-        (
-            "a constant pattern",
-            Filter::Like(
-                column(alloc, "t")?,
-                constant(TEXT, Some(text(alloc, "%")?))?,
-            ),
-            true,
-        ),
-        (
-            "a pattern on numbers",
-            Filter::Like(
-                column(alloc, "a")?,
-                constant(TEXT, Some(text(alloc, "%")?))?,
-            ),
-            false,
-        ),
-        (
-            "a part that breaks a rule",
-            Filter::Or(
-                Boxed::new(alloc, above(alloc, "a", U64, 1)?)?,
-                Boxed::new(alloc, Filter::Truth(column(alloc, "a")?))?,
-            ),
-            false,
-        ),
+        ("another width", PType::I64, Nullability::NonNullable, false),
     ] {
-        assert_eq!(rt; well_typed(&columns, &Some(filter)), want, "{case}");
+        let filter = above(alloc, "a", DType::Primitive(width, nullability), 1)?;
+        assert_eq!(rt; is_typed(alloc, filter)?, want, "{case}");
     }
-    assert!(rt; well_typed(&columns, &None));
+    assert!(rt; !is_typed(alloc, truth(alloc)?)?, "a number alone");
+    assert!(rt; !is_typed(alloc, part_breaks_a_rule(alloc)?)?, "in a part");
+    Ok(())
+}
+
+#[test]
+fn rules_of_types_of_patterns(rt: HostRuntime) -> Result<(), Fail> {
+    let alloc = rt.alloc();
+    assert!(rt; is_typed(alloc, like_any(alloc, "t")?)?, "a constant");
+    assert!(rt; !is_typed(alloc, like_column(alloc)?)?, "a column");
+    assert!(rt; !is_typed(alloc, like_any(alloc, "a")?)?, "on numbers");
     Ok(())
 }
 
@@ -230,31 +252,44 @@ fn is_first_unknown(alloc: Global, request: &ScanRequest, want: &str) -> Result<
     }
 }
 
+fn names_first(alloc: Global, filter: Filter, want: &str) -> Result<bool, AllocError> {
+    let request = filtered(filter);
+    is_first_unknown(alloc, &request, want)
+}
+
+fn both(alloc: Global, left: &str, right: &str) -> Result<Filter, Fail> {
+    let left = Boxed::new(alloc, above(alloc, left, U64, 1)?)?;
+    let right = Boxed::new(alloc, above(alloc, right, U64, 1)?)?;
+    Ok(Filter::And(left, right))
+}
+
 #[test]
 fn unknown_names_in_order(rt: HostRuntime) -> Result<(), Fail> {
     let alloc = rt.alloc();
-    let columns = vec![in alloc; desc(alloc, "a", U64)?]?;
-    let mut request = ScanRequest::default();
-    assert!(rt; first_unknown(&columns, &request).is_none());
-    request.filter = Some(above(alloc, "a", U64, 1)?);
-    assert!(rt; first_unknown(&columns, &request).is_none());
-    request.filter = Some(Filter::And(
-        Boxed::new(alloc, above(alloc, "x", U64, 1)?)?,
-        Boxed::new(alloc, above(alloc, "y", U64, 1)?)?,
-    ));
-    assert!(rt; is_first_unknown(alloc, &request, "x")?);
-    request.filter = Some(Filter::Not(Boxed::new(
-        alloc,
-        Filter::Or(
-            Boxed::new(alloc, above(alloc, "a", U64, 1)?)?,
-            Boxed::new(alloc, above(alloc, "y", U64, 1)?)?,
-        ),
-    )?));
-    assert!(rt; is_first_unknown(alloc, &request, "y")?);
-    request.projection = Projection::Columns(Names::from_vec(vec![in alloc;
-        name(alloc, "a")?,
-        name(alloc, "zz")?,
-    ]?));
+    for (left, right, want) in [("x", "y", "x"), ("a", "y", "y"), ("x", "a", "x")] {
+        let request = filtered(both(alloc, left, right)?);
+        assert!(rt;
+            is_first_unknown(alloc, &request, want)?,
+            "{left} and {right}"
+        );
+    }
+    let known = filtered(both(alloc, "a", "a")?);
+    assert!(rt; !is_first_unknown(alloc, &known, "a")?, "no unknown name");
+    Ok(())
+}
+
+fn two_names(alloc: Global) -> Result<Names, AllocError> {
+    let mut names = Vec::new(alloc);
+    names.push(name(alloc, "a")?)?;
+    names.push(name(alloc, "zz")?)?;
+    Ok(Names::from_vec(names))
+}
+
+#[test]
+fn unknown_names_of_projections_come_first(rt: HostRuntime) -> Result<(), Fail> {
+    let alloc = rt.alloc();
+    let mut request = filtered(both(alloc, "x", "y")?);
+    request.projection = Projection::Columns(two_names(alloc)?);
     request.limit = Some(0);
     assert!(rt; is_first_unknown(alloc, &request, "zz")?);
     Ok(())

@@ -1,9 +1,9 @@
 // Which batches are answers.
-use super::{I32_OR_NULL, NULL, U64, above, cells, numbers, scope, table_of};
+use super::{I32_OR_NULL, NULL, U64, above, cells, filtered, scope, table_of};
 use crate::{PlacedRow, PlainBatch, PlainColumn, Question, answers, chosen_rows};
 use std::alloc::{AllocError, Global};
 use std::test::Fail;
-use vortex_array::DType;
+use vortex_array::{DType, Filter};
 use vortex_table::{ScanRequest, WorkScope};
 
 // The question over three splits of two rows.
@@ -236,15 +236,27 @@ fn types_and_scopes_have_to_agree(rt: HostRuntime) -> Result<(), Fail> {
     Ok(())
 }
 
+// The rows of 3 and null that a filter keeps.
+fn kept(alloc: Global, filter: Filter) -> Result<Vec<PlacedRow>, AllocError> {
+    let request = filtered(filter);
+    kept_by(alloc, &request)
+}
+
+fn kept_by(alloc: Global, request: &ScanRequest) -> Result<Vec<PlacedRow>, AllocError> {
+    let table = table_of(alloc, "qty", I32_OR_NULL, &[3, NULL])?;
+    chosen_rows(alloc, request, &table)
+}
+
+// The question for those above 2.
+fn above_two(alloc: Global) -> Result<Question, Fail> {
+    let rows = kept(alloc, above(alloc, "qty", I32_OR_NULL, 2)?)?;
+    Ok(question_of(alloc, I32_OR_NULL, rows, None, false)?)
+}
+
 #[test]
 fn rows_whose_filter_is_null_are_no_answer(rt: HostRuntime) -> Result<(), Fail> {
     let alloc = rt.alloc();
-    let table = table_of(alloc, "qty", I32_OR_NULL, &[3, NULL])?;
-    let mut request = ScanRequest::default();
-    request.filter = Some(above(alloc, "qty", I32_OR_NULL, 2)?);
-    let rows = chosen_rows(alloc, &request, &table)?;
-    assert_eq!(rt; numbers(alloc, &rows)?.as_slice(), [3].as_slice());
-    let question = question_of(alloc, I32_OR_NULL, rows, None, false)?;
+    let question = above_two(alloc)?;
     for (case, kept, want) in [
         ("the row that is kept", [3].as_slice(), true),
         ("the null row besides", [3, NULL].as_slice(), false),

@@ -1,0 +1,102 @@
+// Arrays and batches, read as the columns and the rows that they stand for.
+ghost use Rattle.std.specs.Prelude.{◌≡◌, IfOk, None, Some, map, pos};
+ghost use Rattle.vortex_array.specs.ColumnOf.{column_of};
+ghost use Rattle.vortex_array.specs.declared.scalar.Value.TheVariants.{Int};
+ghost use Rattle.vortex_io.specs.Memory.{columns_of};
+ghost use Rattle.vortex_table.specs.ChunkOf.{chunk_column, content_of};
+ghost use Rattle.vortex_table.specs.Given.{given};
+
+use crate::batch::{PlainBatch, PlainColumn, PlainContent, PlainSplit};
+use crate::rows::PlainRow;
+use std::alloc::{AllocError, Global};
+use vortex_array::{Array, PrimitiveArray, PrimitiveBuffer, RecordBatch, Validity, Value};
+use vortex_table::{Batch, Chunk, WorkScope};
+
+// The numbers as rows.
+fn present_rows(alloc: Global, numbers: &[u64]) -> Result<PlainRow, AllocError>
+    ensures { IfOk result (λ r. r ≡ map (λ v. Some v) (map (λ n. Int n) (map (λ x. pos x) numbers.now))) }
+{
+    let mut rows = Vec::new(alloc);
+    for number in numbers {
+        rows.push(Some(Value::Int(*number as i128)))?;
+    }
+    Ok(PlainRow::new(rows))
+}
+
+// As many nulls as there are numbers.
+fn absent_rows(alloc: Global, numbers: &[u64]) -> Result<PlainRow, AllocError>
+    ensures { IfOk result (λ r. r ≡ map (λ _. None) (map (λ n. Int n) (map (λ x. pos x) numbers.now))) }
+{
+    let mut rows = Vec::new(alloc);
+    for _ in numbers {
+        rows.push(None)?;
+    }
+    Ok(PlainRow::new(rows))
+}
+
+/// The column that an array stands for.
+pub fn read_column(alloc: Global, array: &Array) -> Result<PlainColumn, AllocError>
+    ensures { IfOk result (λ c. c ≡ column_of array.now) }
+{
+    let Array::Primitive(array) = array;
+    let PrimitiveBuffer::U64(numbers) = array.values();
+    let rows = match array.validity() {
+        Validity::NonNullable => present_rows(alloc, numbers.as_slice())?,
+        Validity::AllValid => present_rows(alloc, numbers.as_slice())?,
+        Validity::AllInvalid => absent_rows(alloc, numbers.as_slice())?,
+    };
+    Ok(PlainColumn::new(array.dtype(), rows))
+}
+
+// The column that a chunk stands for.
+fn read_chunk(alloc: Global, chunk: &Chunk) -> Result<PlainColumn, AllocError>
+    ensures { IfOk result (λ c. c ≡ chunk_column chunk.now) }
+{
+    let Chunk::Plain(array) = chunk;
+    read_column(alloc, array)
+}
+
+// The chunks of a split, seen as columns.
+fn read_split(alloc: Global, chunks: &[Chunk]) -> Result<PlainSplit, AllocError>
+    ensures { IfOk result (λ s. s ≡ map chunk_column chunks.now) }
+{
+    let mut columns = Vec::new(alloc);
+    for chunk in chunks {
+        columns.push(read_chunk(alloc, chunk)?)?;
+    }
+    Ok(PlainSplit::new(columns))
+}
+
+/// The content of chunks by split and by column.
+pub fn read_content(alloc: Global, chunks: &[Vec<Chunk>]) -> Result<PlainContent, AllocError>
+    ensures { IfOk result (λ c. c ≡ content_of (map columns_of chunks.now)) }
+{
+    let mut splits = Vec::new(alloc);
+    for columns in chunks {
+        splits.push(read_split(alloc, columns.as_slice())?)?;
+    }
+    Ok(PlainContent::new(splits))
+}
+
+// The columns of a batch of rows.
+fn read_columns(alloc: Global, array: &RecordBatch) -> Result<Vec<PlainColumn>, AllocError>
+    ensures { IfOk result (λ v. v.items ≡ map column_of array.now.columns) }
+{
+    let mut columns = Vec::new(alloc);
+    for i in 0..array.column_count() {
+        columns.push(read_column(alloc, array.column(i))?)?;
+    }
+    Ok(columns)
+}
+
+/// A scan's batch as its scope, its number of rows and its columns.
+pub fn read_batch(alloc: Global, batch: &Batch) -> Result<PlainBatch, AllocError>
+    ensures { IfOk result (λ b. b ≡ given batch.now) }
+{
+    let columns = read_columns(alloc, &batch.array)?;
+    let scope = WorkScope {
+        file_ordinal: batch.scope.file_ordinal,
+        rows: batch.scope.rows.start..batch.scope.rows.end,
+    };
+    Ok(PlainBatch::new(scope, batch.array.rows() as u64, columns))
+}

@@ -1,0 +1,7 @@
+//! The program's formats, and the program over any streams: the text of a table, the text of a request, and the text of the rows
+//! that answer it.
+#![tactic(auto)]
+
+mod request;
+
+pub use request::{RequestError, request_of};

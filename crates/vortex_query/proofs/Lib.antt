@@ -1,0 +1,5 @@
+pub mod Digits
+pub mod Gives
+pub mod Only
+pub mod Records
+pub mod Rows

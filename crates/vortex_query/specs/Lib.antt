@@ -1,2 +1,5 @@
 pub mod Members
 pub mod Requested
+pub mod Fields
+pub mod Left
+pub mod Numbered

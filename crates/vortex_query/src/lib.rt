@@ -3,5 +3,7 @@
 #![tactic(auto)]
 
 mod request;
+mod table_text;
 
 pub use request::{RequestError, request_of};
+pub use table_text::TableTextError;

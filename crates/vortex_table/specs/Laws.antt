@@ -1,14 +1,18 @@
 -- What the definitions imply.
-use Rattle.std.specs.Prelude.{◌≡◌, ◌<◌, ◌⊎◌, ◌↔◌, ℕ, List, AllPairs, All, Any, Contains, not, true, Option, Some, None, option_and_then, slice_get, flat_map, IsTrue}
+use Rattle.std.specs.Prelude.{◌≡◌, ◌<◌, ◌⊎◌, ◌↔◌, ℕ, List, AllPairs, All, Any, Contains, not, true, Option, Some, None, option_and_then, slice_get, length, map, take, flat_map, IsTrue}
+use Rattle.std.specs.List.{AllZip}
 use Rattle.vortex_table.specs.declared.scan.selection.Selection.TheVariants.{IncludeByIndex, ExcludeByIndex}
 use Rattle.vortex_table.specs.declared.scan.request.ScanRequest.{ScanRequest}
 use Rattle.vortex_table.specs.declared.describe.PartitionDesc.{PartitionDesc}
 use Rattle.vortex_table.specs.declared.scan.batch.WorkScope.{WorkScope}
-use Rattle.vortex_table.specs.Members.{in_selection}
+use Rattle.vortex_array.specs.declared.column.ColumnDesc.{ColumnDesc}
 use Rattle.vortex_array.specs.Cells.{Row}
-use Rattle.vortex_table.specs.Table.{Decoded, scopes_from}
+use Rattle.vortex_table.specs.Members.{in_selection}
+use Rattle.vortex_table.specs.Valid.{first_unknown}
+use Rattle.vortex_table.specs.Table.{Content, Decoded, FitsPartition, scopes_from}
 use Rattle.vortex_table.specs.Chosen.{Placed, chosen, is_chosen, lies_in, rows_in}
-use Rattle.vortex_table.specs.Answers.{Asked, Given, Answers, stands_for}
+use Rattle.vortex_table.specs.Answers.{Answers, Asked, Given, asked, stands_for, within}
+use Rattle.vortex_table.specs.Turn.{batch_rows}
 
 -- in an earlier partition, or earlier in the same one
 abbrev pub StandsBefore : Placed → Placed → Type 0
@@ -50,3 +54,26 @@ NoRowMissing = (a : Asked) (batches : List Given) → AreApart a.scopes → a.li
 -- the splits of every table are so
 abbrev pub SplitsAreApart : Type 0
 SplitsAreApart = (partitions : List PartitionDesc) → AreApart (scopes_from 0 partitions)
+
+-- whatever the limit and the order, each question that a request asks of a table has an answer
+abbrev pub EachQuestionHasAnAnswer : Type 0
+EachQuestionHasAnAnswer = (columns : List ColumnDesc) (partitions : List PartitionDesc) (contents : List Content) (request : ScanRequest) → AllZip FitsPartition partitions contents
+    → (batches : List Given) × Answers (asked columns partitions contents request) batches
+
+-- each row of L has a value for each projected type
+abbrev pub RowsAreFull : Asked → Type 0
+RowsAreFull a = All (λ x. length x.values ≡ length a.types) a.rows
+
+-- where every name is known, each row of L has a value for each projected type
+abbrev pub ChosenRowsAreFull : Type 0
+ChosenRowsAreFull = (columns : List ColumnDesc) (partitions : List PartitionDesc) (contents : List Content) (request : ScanRequest) → first_unknown columns request ≡ None
+    → RowsAreFull (asked columns partitions contents request)
+
+-- the batches of an answer, read row by row, are the rows of L that they stand for
+abbrev pub AnswerIsItsRows : Type 0
+AnswerIsItsRows = (a : Asked) (batches : List Given) → RowsAreFull a → Answers a batches → flat_map batch_rows batches ≡ map (λ x. x.values) (flat_map (stands_for a.rows) batches)
+
+-- the batches of an ordered answer, read row by row, are the first rows of L, up to the limit
+abbrev pub OrderedAnswerIsFirstRows : Type 0
+OrderedAnswerIsFirstRows = (a : Asked) (batches : List Given) → RowsAreFull a → a.ordered ≡ true → Answers a batches
+    → flat_map batch_rows batches ≡ map (λ x. x.values) (take (within a.limit (length a.rows)) a.rows)

@@ -5,3 +5,4 @@ pub mod Table
 pub mod Chosen
 pub mod Answers
 pub mod Laws
+pub mod Turn

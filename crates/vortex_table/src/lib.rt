@@ -2,9 +2,15 @@
 #![tactic(auto)]
 
 mod describe;
+mod laws;
 pub mod scan;
 
 pub use describe::{ChunkDesc, PartitionDesc, SplitDesc};
+pub use laws::{
+    answer_is_its_rows, chosen_ascend, chosen_exactly, chosen_rows_are_full,
+    each_question_has_an_answer, no_row_missing, ordered_answer_is_first_rows,
+    ordered_answers_agree, selections_partition, splits_are_apart, without_limit,
+};
 pub use scan::{
     Batch, Names, NotIncreasing, Place, Projection, RootId, ScanRequest, Selection,
     StrictSortedBuffer, WorkScope,

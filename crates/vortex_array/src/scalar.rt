@@ -77,7 +77,8 @@ impl Scalar {
 
     /// The value, or none where it is null.
     pub fn value(&self) -> Option<&Value>
-        ensures { option_copied result ≡ self.now.value }
+        ensures value { option_copied result ≡ self.now.value }
+        ensures fits { IsTrue (fits_type self.now.dtype self.now.value) }
     {
         self.value.as_ref()
     }

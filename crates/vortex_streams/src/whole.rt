@@ -1,12 +1,13 @@
 // All bytes of an input, and all bytes to an output.
 ghost use Rattle.std.specs.Prelude.{◌≡◌, ◌≤◌, ◌<◌, length, IfOk, OnOk, OnErr, IsErrOf, IfSome};
 ghost use Rattle.std.specs.Io.KnownBytes.{Appends, IsAtEnd};
+ghost use Rattle.std.specs.Vec.{vec_len};
 ghost use Rattle.vortex_streams.specs.Faults.{Faulted, HasCause};
 ghost use Rattle.vortex_streams.specs.Known.{AppendsFront, ConsumesFront, ConsumesMoreThan};
 ghost use Rattle.vortex_streams.specs.declared.whole.ReadError.TheVariants.{ReadFault, TooLong};
 
 use crate::{ByteSink, ByteSource, Failed};
-use std::alloc::Global;
+use std::alloc::{AllocError, Global};
 use thiserror::Error;
 use vortex_buffer::Buffer;
 
@@ -41,13 +42,20 @@ pub fn read_all<I: ByteSource>(alloc: Global, input: &mut I) -> Result<Buffer<u8
     ensures consumed { ConsumesFront (I.left input.old) (I.left input.new) }
     ensures later { I.faults input.old ≤ I.faults input.new }
 {
-    let Ok(mut buffer) = vec![in alloc; 0u8; READ_SIZE] else {
+    let Ok(mut buffer) = zeros(alloc, READ_SIZE) else {
         return Err(ReadError::OutOfMemory);
     };
     read_through(alloc, input, &mut buffer, READ_LIMIT)
 }
 
+fn zeros(alloc: Global, size: usize) -> Result<Vec<u8>, AllocError>
+    ensures { IfOk result (λ zeros. vec_len zeros ≡ size) }
+{
+    vec![in alloc; 0u8; size]
+}
+
 // All bytes that are left, read by this buffer, `limit` at most.
+#[tactic(auto, using(crate::proofs::Fronts::front_consumed, crate::proofs::Fronts::more_than))]
 fn read_through<I: ByteSource>(
     alloc: Global,
     input: &mut I,
@@ -82,6 +90,7 @@ fn read_through<I: ByteSource>(
 
 /// Hands over all bytes, in as many pieces as the output makes of them. A failure ends it at once: the output then took a
 /// front of the bytes, and none twice. It takes no memory.
+#[tactic(auto, using(crate::proofs::Fronts::appended_more))]
 pub fn write_all<O: ByteSink>(output: &mut O, bytes: &[u8]) -> Result<(), Failed>
     ensures all { OnOk result (Appends (O.taken output.old) (O.taken output.new) bytes.now) }
     ensures front { OnErr result (AppendsFront (O.taken output.old) (O.taken output.new) bytes.now) }

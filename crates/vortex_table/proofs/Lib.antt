@@ -6,3 +6,4 @@ pub mod Apart
 pub mod Tiling
 pub mod Turning
 pub mod Joined
+pub mod Zipped

@@ -1,11 +1,18 @@
 //! Tables and their scans: the rows of a table that a request asks for, in batches.
 #![tactic(auto)]
 
+mod built;
+mod check;
+mod chunk;
 mod describe;
+mod errors;
 mod laws;
 pub mod scan;
+mod table;
 
+pub use chunk::Chunk;
 pub use describe::{ChunkDesc, PartitionDesc, SplitDesc};
+pub use errors::{ScanError, TableError};
 pub use laws::{
     answer_is_its_rows, chosen_ascend, chosen_exactly, chosen_rows_are_full,
     each_question_has_an_answer, no_row_missing, ordered_answer_is_first_rows,
@@ -15,3 +22,4 @@ pub use scan::{
     Batch, Names, NotIncreasing, Place, Projection, RootId, ScanRequest, Selection,
     StrictSortedBuffer, WorkScope,
 };
+pub use table::{Table, TableRefused};

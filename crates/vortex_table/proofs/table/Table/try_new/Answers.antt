@@ -1,0 +1,16 @@
+use Rattle.std.proofs.Common.{◌≡◌, ◌∙◌, ap, sym, length}
+use Rattle.vortex_table.specs.Described.{IsDescribed}
+use Rattle.vortex_table.specs.State.{IsCleared}
+use Rattle.vortex_table.proofs.Zipped.{zipped-all, zipped-long}
+use Rattle.vortex_table.proofs.table.Table.try_new.Goals as goal
+
+pub invariant_of-result : goal.invariant_of-result
+invariant_of-result g c =
+    let R = IsCleared g.S.IoSource.outstanding g.S.IoSource.content g.S.IoSource.journal g.S.IoSource.faults in
+    let long = zipped-long R c.args.sources.items c.clear_all.new.sources.items c.clear_all.ensures in
+    let count : length c.as_slice-count.result.now ≡ length c.args.sources.items = ap length c.as_slice-count.ensures.value in
+    let described = c.in-None.ensures.none in
+    record {
+      described = rw (c.as_slice.ensures.value, c.as_slice-2.ensures.value, count ∙ long) at described;
+      idle = zipped-all R _ (λ x y r. r.idle) c.args.sources.items c.clear_all.new.sources.items c.clear_all.ensures;
+    }

@@ -1,0 +1,28 @@
+-- What contracts see of a table, and what a call leaves of its sources.
+use Rattle.std.specs.Prelude.{◌≡◌, ℕ, ◌≤◌, List, [], Option}
+use Rattle.vortex_array.specs.declared.column.ColumnDesc.{ColumnDesc}
+use Rattle.vortex_io.specs.Source.{Content, grown}
+use Rattle.vortex_io.specs.declared.request.Fetch.{Fetch}
+use Rattle.vortex_io.specs.declared.request.JournalEntry.{JournalEntry}
+use Rattle.vortex_table.specs.declared.describe.PartitionDesc.{PartitionDesc}
+
+-- the columns, the partitions, and a source for each partition
+pub record TableState (S : Type 0) : Type 0 where
+  pub columns : List ColumnDesc
+  pub partitions : List PartitionDesc
+  pub sources : List S
+
+-- a source that gave up what was outstanding, and nothing else
+pub record IsCleared {S C : Type 0} (outstanding : S → List Fetch) (content : S → Option (Content C)) (journal : S → Option (List JournalEntry)) (faults : S → ℕ) (old new : S) : Type 0 where
+  pub idle : outstanding new ≡ []
+  pub chunks : content new ≡ content old
+  pub told : journal new ≡ journal old
+  pub counted : faults old ≤ faults new
+
+-- a source with nothing outstanding, its content as it was, its journal only extended, its count not lower
+pub record Stands {S C : Type 0} (outstanding : S → List Fetch) (content : S → Option (Content C)) (journal : S → Option (List JournalEntry)) (faults : S → ℕ) (old new : S) : Type 0 where
+  pub idle : outstanding new ≡ []
+  pub chunks : content new ≡ content old
+  pub added : List JournalEntry
+  pub told : journal new ≡ grown (journal old) added
+  pub counted : faults old ≤ faults new

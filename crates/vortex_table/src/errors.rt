@@ -1,0 +1,29 @@
+// Why tables and scans are refused.
+use vortex_array::Name;
+
+/// Why a description and sources make no table. The first that holds is answered.
+#[derive(Clone, Copy, Debug, PartialEq, Eq)]
+pub enum TableError {
+    /// Two columns share a name.
+    RepeatedName,
+    /// There is not one source for each partition.
+    SourceCount,
+    /// The first split whose chunks differ from the columns in number, from the split in rows, or from a
+    /// column in type, nulls or none included.
+    ChunkListDoesNotFit { partition: u64, split: u64 },
+    /// The rows of the table, or six times its splits and twice its partitions, do not fit 64 bits.
+    TooLarge,
+    /// Want of memory.
+    OutOfMemory,
+}
+
+/// Why a scan is refused. The first that holds is answered.
+#[derive(Drop)]
+pub enum ScanError {
+    /// The table or the request is of a form that is not built yet.
+    NotBuilt,
+    /// The first name of the request that is not the table's.
+    InvalidRequest { name: Name },
+    /// Want of memory.
+    OutOfMemory,
+}

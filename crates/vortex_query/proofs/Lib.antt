@@ -1,5 +1,6 @@
 pub mod Digits
 pub mod Gives
+pub mod Lines
 pub mod Only
 pub mod Records
 pub mod Rows

@@ -1,11 +1,11 @@
 -- What a text spells, row by row.
-use Rattle.std.proofs.Common.{◌≡◌, ◌<◌, ◌≤◌, ◌+◌, ◌++◌, ◌∙◌, ap, sym, arith, ℕ, List, [], ◌∷◌, length, length-append, Option, Some, None, refl, append_assoc}
-use Rattle.std.specs.Prelude.{option_and_then, option_map, if◌then◌else◌}
+use Rattle.std.proofs.Common.{◌≡◌, ◌<◌, ◌≤◌, ◌++◌, ◌∙◌, ap, sym, arith, ℕ, List, [], ◌∷◌, length, length-append, Option, Some, None, refl, append_assoc}
+use Rattle.std.specs.Prelude.{option_and_then, option_map}
 use Rattle.std.proofs.lemmas.Bool.Decides.{nat_tests}
 use Rattle.std.proofs.lemmas.List.{append-nil}
 use Rattle.csv.specs.Reading.{default_config, records, strip_bom}
 use Rattle.vortex_query.specs.Fields.{header_name, row_number}
-use Rattle.vortex_query.specs.Numbered.{NumberedColumn, column_in, few, numbered, preceded, rows_numbers, under_name}
+use Rattle.vortex_query.specs.Numbered.{column_in, few, numbered, preceded, rows_numbers, under_name}
 
 -- no record, no column
 pub no_header : (bytes : List ℕ) → records default_config (strip_bom bytes) ≡ [] → numbered bytes ≡ None

@@ -3,3 +3,5 @@ pub mod Requested
 pub mod Fields
 pub mod Left
 pub mod Numbered
+pub mod Text
+pub mod Shown

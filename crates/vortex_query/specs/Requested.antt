@@ -4,10 +4,6 @@ use Rattle.std.specs.Str.{bytes_eq}
 use Rattle.serde_json.specs.Data.{Data, null, boolean, number, string, array, object}
 use Rattle.serde_json.specs.Find.{as_number, as_str, as_u64, get}
 use Rattle.serde_json.specs.Read.{read}
-use Rattle.vortex_array.specs.declared.types.DType.{DType}
-use Rattle.vortex_array.specs.declared.types.DType.TheVariants.{Primitive}
-use Rattle.vortex_array.specs.declared.types.PType.TheVariants.{U64}
-use Rattle.vortex_array.specs.declared.types.Nullability.TheVariants.{NonNullable}
 use Rattle.vortex_array.specs.declared.scalar.Value.TheVariants.{Int}
 use Rattle.vortex_array.specs.declared.filter.CompareOperator.{CompareOperator}
 use Rattle.vortex_array.specs.declared.filter.CompareOperator.TheVariants.{Eq, NotEq, Gt, Gte, Lt, Lte}
@@ -17,6 +13,7 @@ use Rattle.vortex_array.specs.declared.filter.Filter.{Filter, Compare}
 use Rattle.vortex_table.specs.declared.scan.request.Projection.TheVariants as projection
 use Rattle.vortex_table.specs.declared.scan.request.ScanRequest.{ScanRequest}
 use Rattle.vortex_table.specs.declared.scan.selection.Selection.TheVariants as selection
+use Rattle.vortex_table.specs.Built.{u64_type}
 use Rattle.vortex_query.specs.Members.{item_of, only_member, width}
 
 -- the operator that a text names
@@ -41,10 +38,6 @@ u64_in d = option_and_then (λ kind. if bytes_eq kind (codes "u64") then option_
 -- {"lit": ["u64", number]}
 abbrev pub number_in : Data → Option ℕ
 number_in d = option_and_then u64_in (only_member (codes "lit") d)
-
--- whole numbers of 64 bits without sign and without nulls
-abbrev pub u64_type : DType
-u64_type = Primitive U64 NonNullable
 
 -- a number as a constant of that type
 abbrev pub constant_of : ℕ → Operand

@@ -2,8 +2,10 @@
 //! that answer it.
 #![tactic(auto)]
 
+mod batches;
 mod request;
 mod table_text;
 
+pub use batches::rows_text;
 pub use request::{RequestError, request_of};
 pub use table_text::TableTextError;

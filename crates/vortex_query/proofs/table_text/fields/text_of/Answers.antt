@@ -1,9 +1,8 @@
-use Rattle.std.proofs.Common.{◌≡◌, ◌∙◌, ap, sym, ℕ, List, refl, Bool, true, false, Some, None, inl, inr}
+use Rattle.std.proofs.Common.{◌∙◌, ap, sym, Some, None, inl, inr}
 use Rattle.std.specs.Prelude.{if◌then◌else◌}
 use Rattle.std.specs.Str.{is_utf8}
 use Rattle.std.proofs.lemmas.Bool.{cases_Bool}
 use Rattle.std.proofs.lemmas.Str.{is_utf8-from_IsUtf8, IsUtf8-from_is_utf8}
-use Rattle.vortex_query.specs.Fields.{text_in}
 use Rattle.vortex_query.proofs.table_text.fields.text_of.Goals as goal
 
 pub returns-in-Ok : goal.returns-in-Ok

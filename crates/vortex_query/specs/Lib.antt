@@ -3,5 +3,6 @@ pub mod Requested
 pub mod Fields
 pub mod Left
 pub mod Numbered
+pub mod Spelled
 pub mod Text
 pub mod Shown

@@ -3,9 +3,11 @@
 #![tactic(auto)]
 
 mod batches;
+mod options;
 mod request;
 mod table_text;
 
 pub use batches::rows_text;
+pub use options::{Encode, Options};
 pub use request::{RequestError, request_of};
-pub use table_text::TableTextError;
+pub use table_text::{TableTextError, table_of};

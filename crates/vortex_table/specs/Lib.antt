@@ -11,3 +11,4 @@ pub mod Described
 pub mod State
 pub mod Built
 pub mod Kept
+pub mod Given

@@ -9,6 +9,8 @@ mod memory;
 mod payload;
 mod request;
 mod source;
+#[cfg(test)]
+mod tests;
 
 pub use batch::IoBatch;
 pub use ids::{IoOwnerId, IoRequestId};

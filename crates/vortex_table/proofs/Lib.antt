@@ -7,3 +7,9 @@ pub mod Tiling
 pub mod Turning
 pub mod Joined
 pub mod Zipped
+pub mod Filtered
+pub mod ReadBack
+pub mod SplitSteps
+pub mod OneColumn
+pub mod OwnCell
+pub mod OnePartition

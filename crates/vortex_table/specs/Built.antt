@@ -1,17 +1,20 @@
 -- The forms of tables and requests that a scan answers today.
-use Rattle.std.specs.Prelude.{◌≡◌, ℕ, ℤ, pos, ◌&&◌, List, [], ◌∷◌, length, nat_le, Bool, true, false, Option, Some, None, is_some, is_none}
+use Rattle.std.specs.Prelude.{◌≡◌, ℕ, ◌&&◌, List, [], ◌∷◌, length, nat_le, Bool, true, false, Option, Some, None, is_some, is_none, find, not, ⊤}
 use Rattle.vortex_array.specs.declared.types.PType.TheVariants.{U64}
 use Rattle.vortex_array.specs.declared.types.Nullability.TheVariants.{NonNullable}
 use Rattle.vortex_array.specs.declared.types.DType.{DType}
 use Rattle.vortex_array.specs.declared.types.DType.TheVariants.{Primitive}
-use Rattle.vortex_array.specs.declared.scalar.Value.{Value}
-use Rattle.vortex_array.specs.declared.scalar.Value.TheVariants.{Int}
 use Rattle.vortex_array.specs.declared.column.ColumnDesc.{ColumnDesc}
-use Rattle.vortex_array.specs.declared.filter.CompareOperator.{CompareOperator}
 use Rattle.vortex_array.specs.declared.filter.Operand.{Operand}
 use Rattle.vortex_array.specs.declared.filter.Operand.TheVariants.{Column, Constant}
 use Rattle.vortex_array.specs.declared.filter.Filter.{Filter, fold-Filter}
 use Rattle.vortex_array.specs.declared.filter.Filter.TheOpen.{Filter-F}
+use Rattle.vortex_array.specs.Cells.{dtype_of}
+use Rattle.vortex_array.specs.Typed.{filter_names}
+use Rattle.vortex_table.specs.State.{TableState}
+use Rattle.vortex_table.specs.Valid.{first_unknown}
+use Rattle.vortex_table.specs.declared.errors.ScanError.{ScanError}
+use Rattle.vortex_table.specs.declared.errors.ScanError.TheVariants.{NotBuilt, InvalidRequest, OutOfMemory}
 use Rattle.vortex_table.specs.declared.describe.PartitionDesc.{PartitionDesc}
 use Rattle.vortex_table.specs.declared.scan.request.Projection.{Projection}
 use Rattle.vortex_table.specs.declared.scan.request.Projection.TheVariants.{All, Columns}
@@ -74,3 +77,25 @@ is_unlimited request =
 -- whether the table has at most one partition and one such column, and the request one such comparison at most
 abbrev pub is_built : List ColumnDesc → List PartitionDesc → ScanRequest → Bool
 is_built columns partitions request = nat_le (length partitions) 1 && is_one_u64 columns && is_unlimited request && is_comparison request.filter
+
+-- the first name of a filter that is not the table's
+abbrev pub unknown_in : List ColumnDesc → Option Filter → Option (List ℕ)
+unknown_in columns filter = find (λ name. not (is_some (dtype_of columns name))) (filter_names filter)
+
+-- a refusal by a name: the first of the filter that is not the table's
+abbrev pub UnknownIn : List ColumnDesc → Option Filter → ScanError → Type 0
+UnknownIn columns filter NotBuilt = ⊥
+UnknownIn columns filter (InvalidRequest name) = unknown_in columns filter ≡ Some name
+UnknownIn columns filter OutOfMemory = ⊤
+
+-- why a scan is refused: each cause holds, and none before it
+abbrev pub HasCause : List ColumnDesc → List PartitionDesc → ScanRequest → ScanError → Type 0
+HasCause columns partitions request NotBuilt = is_built columns partitions request ≡ false
+HasCause columns partitions request (InvalidRequest name) = (is_built columns partitions request ≡ true) × (first_unknown columns request ≡ Some name)
+HasCause columns partitions request OutOfMemory = ⊤
+
+-- a refusal by form or by name leaves the whole table as it was
+abbrev pub ChangesNothing : {S : Type 0} → TableState S → TableState S → ScanError → Type 0
+ChangesNothing old new NotBuilt = new ≡ old
+ChangesNothing old new (InvalidRequest name) = new ≡ old
+ChangesNothing old new OutOfMemory = ⊤

@@ -2,7 +2,6 @@
 use Rattle.std.specs.Prelude.{ℕ, List, map, count_by}
 use Rattle.std.specs.List.{range_with_len}
 use Rattle.vortex_array.specs.ColumnOf.{column_of}
-use Rattle.vortex_array.specs.declared.column.ColumnDesc.{ColumnDesc}
 use Rattle.vortex_io.specs.Memory.{MemoryState}
 use Rattle.vortex_table.specs.declared.chunk.Chunk.{Chunk}
 use Rattle.vortex_table.specs.declared.scan.batch.Batch.{Batch}

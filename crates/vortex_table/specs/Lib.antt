@@ -12,3 +12,5 @@ pub mod State
 pub mod Built
 pub mod Kept
 pub mod Given
+pub mod Fetching
+pub mod Scanning

@@ -1,7 +1,8 @@
 -- What contracts see of a table, and what a call leaves of its sources.
-use Rattle.std.specs.Prelude.{◌≡◌, ℕ, ◌≤◌, List, [], Option}
+use Rattle.std.specs.Prelude.{◌≡◌, ℕ, ◌≤◌, List, [], ◌++◌, Option}
 use Rattle.vortex_array.specs.declared.column.ColumnDesc.{ColumnDesc}
-use Rattle.vortex_io.specs.Source.{Content, grown}
+use Rattle.vortex_io.specs.Memory.{MemoryState}
+use Rattle.vortex_io.specs.Source.{Content}
 use Rattle.vortex_io.specs.declared.request.Fetch.{Fetch}
 use Rattle.vortex_io.specs.declared.request.JournalEntry.{JournalEntry}
 use Rattle.vortex_table.specs.declared.describe.PartitionDesc.{PartitionDesc}
@@ -19,10 +20,11 @@ pub record IsCleared {S C : Type 0} (outstanding : S → List Fetch) (content : 
   pub told : journal new ≡ journal old
   pub counted : faults old ≤ faults new
 
--- a source with nothing outstanding, its content as it was, its journal only extended, its count not lower
-pub record Stands {S C : Type 0} (outstanding : S → List Fetch) (content : S → Option (Content C)) (journal : S → Option (List JournalEntry)) (faults : S → ℕ) (old new : S) : Type 0 where
-  pub idle : outstanding new ≡ []
-  pub chunks : content new ≡ content old
+-- a source in memory after a scan: nothing is outstanding, its chunks, its order and its count are as they were, its journal is only extended
+pub record Stands {C : Type 0} (old new : MemoryState C) : Type 0 where
+  pub idle : new.outstanding ≡ []
+  pub chunks : new.chunks ≡ old.chunks
+  pub arrive : new.arrive ≡ old.arrive
+  pub faults : new.faults ≡ old.faults
   pub added : List JournalEntry
-  pub told : journal new ≡ grown (journal old) added
-  pub counted : faults old ≤ faults new
+  pub journal : new.journal ≡ old.journal ++ added

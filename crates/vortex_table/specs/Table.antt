@@ -1,8 +1,6 @@
 -- A table: its description, the content of its sources, and the rows that both make.
-use Rattle.std.specs.Prelude.{◌≡◌, ℕ, ◌+◌, List, [], ◌∷◌, ◌++◌, length, map, zip, flat_map, Option, Some, None, slice_get, unwrap_or, if◌then◌else◌, IsTrue}
-use Rattle.std.specs.Str.{bytes_eq}
+use Rattle.std.specs.Prelude.{◌≡◌, ℕ, ◌+◌, List, [], ◌∷◌, ◌++◌, length, map, zip, flat_map, None, slice_get, unwrap_or, IsTrue}
 use Rattle.std.specs.List.{range_with_len, AllZip}
-use Rattle.vortex_array.specs.declared.types.DType.{DType}
 use Rattle.vortex_array.specs.declared.column.ColumnDesc.{ColumnDesc}
 use Rattle.vortex_table.specs.declared.describe.ChunkDesc.{ChunkDesc}
 use Rattle.vortex_table.specs.declared.describe.SplitDesc.{SplitDesc}

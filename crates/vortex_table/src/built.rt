@@ -1,13 +1,18 @@
 // The forms of tables and requests that a scan answers today, and what they keep of a row.
-ghost use Rattle.std.specs.Prelude.{◌≡◌, ◌∷◌, [], ◌↔◌, ℕ, List, Option, pos, IfSome, IsTrue, Some, is_some};
+ghost use Rattle.std.specs.Prelude.{◌≡◌, ◌≤◌, ◌∷◌, [], length, ◌↔◌, ℕ, List, Option, pos, None, true, IfErr, IfOk, IfSome, OnOk, IsTrue, Some, is_some};
+ghost use Rattle.vortex_array.specs.Cells.{cell_of};
 ghost use Rattle.vortex_array.specs.Typed.{filter_names};
 ghost use Rattle.vortex_array.specs.Truth.{keeps};
 ghost use Rattle.vortex_array.specs.declared.scalar.Value.TheVariants.{Int};
 ghost use Rattle.vortex_array.specs.declared.scalar.Value.{Value as ArrayValue};
-ghost use Rattle.vortex_table.specs.Built.{is_built as is_built_form, is_one_u64, is_u64 as is_u64_type, is_unlimited as is_unlimited_request, is_comparison, is_whole as is_whole_projection, selects_all as selects_all_places};
+ghost use Rattle.vortex_table.specs.Built.{HasCause, UnknownIn, is_built as is_built_form, is_one_u64, is_u64 as is_u64_type, is_unlimited as is_unlimited_request, is_comparison, is_whole as is_whole_projection, selects_all as selects_all_places, unknown_in};
+ghost use Rattle.vortex_table.specs.Valid.{first_unknown};
 ghost use Rattle.vortex_table.specs.Kept.{passes};
 
+use crate::describe::PartitionDesc;
+use crate::errors::ScanError;
 use crate::scan::{Projection, ScanRequest, Selection};
+use std::alloc::Global;
 use vortex_array::{
     ColumnDesc, CompareOperator, DType, Filter, Name, Nullability, Operand, PType, Scalar, Value,
 };
@@ -101,5 +106,74 @@ fn comparison_in(filter: &Filter) -> Option<(&Name, Comparison)>
             ))
         }
         _ => None,
+    }
+}
+
+// Whether the table and the request are of a form that is built.
+fn is_built(columns: &[ColumnDesc], partitions: &[PartitionDesc], request: &ScanRequest) -> bool
+    ensures { result ≡ is_built_form columns.now partitions.now request.now }
+{
+    partitions.len() <= 1
+        && is_one_column(columns)
+        && is_unlimited(request)
+        && is_comparison_or_none(&request.filter)
+}
+
+// Whether there is no filter but one comparison of a column with a constant of `u64`.
+fn is_comparison_or_none(filter: &Option<Filter>) -> bool
+    ensures { result ≡ is_comparison filter.now }
+{
+    match filter {
+        None => true,
+        Some(filter) => comparison_in(filter).is_some(),
+    }
+}
+
+// What the comparison of a filter keeps, where its column is that of the table.
+fn keep_in(
+    alloc: Global,
+    columns: &[ColumnDesc],
+    filter: &Filter,
+) -> Result<Option<Comparison>, ScanError>
+    requires column { is_one_u64 columns.now ≡ true }
+    requires form { is_comparison (Some filter.now) ≡ true }
+    ensures known { OnOk result (unknown_in columns.now (Some filter.now) ≡ None) }
+    ensures keeps { IfOk result (λ keep. (n : ℕ) → passes keep n ≡ keeps (Some filter.now) (cell_of columns.now (Some (Int (pos n)) ∷ []))) }
+    ensures unknown { IfErr result (UnknownIn columns.now (Some filter.now)) }
+{
+    let Some((name, comparison)) = comparison_in(filter) else {
+        unreachable!()
+    };
+    let [column] = columns else { unreachable!() };
+    if column.name.as_str() == name.as_str() {
+        return Ok(Some(comparison));
+    }
+    match name.try_clone(alloc) {
+        Ok(name) => Err(ScanError::InvalidRequest { name }),
+        Err(_) => Err(ScanError::OutOfMemory),
+    }
+}
+
+/// What a scan keeps: all rows, or those that a comparison keeps.
+pub(crate) fn keep_of(
+    alloc: Global,
+    columns: &[ColumnDesc],
+    partitions: &[PartitionDesc],
+    request: &ScanRequest,
+) -> Result<Option<Comparison>, ScanError>
+    ensures built { OnOk result (is_built_form columns.now partitions.now request.now ≡ true) }
+    ensures one { OnOk result (length partitions.now ≤ 1) }
+    ensures column { OnOk result (is_one_u64 columns.now ≡ true) }
+    ensures unlimited { OnOk result (is_unlimited_request request.now ≡ true) }
+    ensures known { OnOk result (first_unknown columns.now request.now ≡ None) }
+    ensures keeps { IfOk result (λ keep. (n : ℕ) → passes keep n ≡ keeps request.now.filter (cell_of columns.now (Some (Int (pos n)) ∷ []))) }
+    ensures cause { IfErr result (HasCause columns.now partitions.now request.now) }
+{
+    if !is_built(columns, partitions, request) {
+        return Err(ScanError::NotBuilt);
+    }
+    match &request.filter {
+        None => Ok(None),
+        Some(filter) => keep_in(alloc, columns, filter),
     }
 }

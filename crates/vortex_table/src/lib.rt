@@ -7,8 +7,10 @@ mod chunk;
 mod describe;
 mod errors;
 mod laws;
+mod partition;
 pub mod scan;
 mod table;
+mod table_scan;
 
 pub use chunk::Chunk;
 pub use describe::{ChunkDesc, PartitionDesc, SplitDesc};
@@ -23,3 +25,4 @@ pub use scan::{
     StrictSortedBuffer, WorkScope,
 };
 pub use table::{Table, TableRefused};
+pub use table_scan::scan_table;

@@ -1,17 +1,26 @@
 // Tables: a description, and a source for each partition.
-ghost use Rattle.std.specs.Prelude.{◌≡◌, ◌<◌, IfErr, IfOk, Some, length, option_map, slice_get};
+ghost use Rattle.std.specs.Prelude.{◌≡◌, ◌<◌, ◌≤◌, OnOk, true, map, All, [], IfErr, IfOk, Some, length, option_map, slice_get};
 ghost use Rattle.std.specs.List.{AllZip};
 ghost use Rattle.vortex_table.specs.Described.{IsDescribed, Refuses, steps_of};
-ghost use Rattle.vortex_table.specs.State.{IsCleared};
+ghost use Rattle.vortex_io.specs.Memory.{MemoryState};
+ghost use Rattle.vortex_table.specs.Built.{is_one_u64};
+ghost use Rattle.vortex_table.specs.Fetching.{journals_after};
+ghost use Rattle.vortex_table.specs.Given.{contents_of, given};
+ghost use Rattle.vortex_table.specs.Scanning.{AreOfFirstRoot, table_batches};
+ghost use Rattle.vortex_table.specs.State.{IsCleared, Stands};
+ghost use Rattle.vortex_table.specs.Table.{FitsPartition};
 
+use crate::built::Comparison;
 use crate::check::{count_steps, refusal};
 use crate::chunk::Chunk;
 use crate::describe::{PartitionDesc, SplitDesc};
 use crate::errors::TableError;
-use std::alloc::Global;
+use crate::partition::scan_sources;
+use crate::scan::Batch;
+use std::alloc::{AllocError, Global};
 use std::marker::Model;
 use vortex_array::ColumnDesc;
-use vortex_io::IoSource;
+use vortex_io::{IoSource, MemorySource};
 
 /// A refusal, with the sources as they were handed in.
 #[derive(Drop)]
@@ -88,6 +97,14 @@ impl<S: IoSource<Payload = Chunk>> Table<S> {
         self.columns.as_slice()
     }
 
+    /// The partitions, as they were described.
+    pub fn partitions(&self) -> &[PartitionDesc]
+        ensures value { result.now ≡ self.now.partitions }
+        ensures idle { All (λ source. S.outstanding source ≡ []) self.now.sources }
+    {
+        self.partitions.as_slice()
+    }
+
     /// How many partitions there are.
     pub fn partition_count(&self) -> usize
         ensures { result ≡ length self.now.partitions }
@@ -119,5 +136,27 @@ impl<S: IoSource<Payload = Chunk>> Table<S> {
             Some(steps) => steps,
             None => unreachable!(),
         }
+    }
+}
+
+impl Table<MemorySource<Chunk>> {
+    /// Scans the only partition, if there is one.
+    pub(crate) fn scan_only(
+        &mut self,
+        alloc: Global,
+        keep: &Option<Comparison>,
+    ) -> Result<Vec<Batch>, AllocError>
+        requires one { length self.old.partitions ≤ 1 }
+        requires column { is_one_u64 self.old.columns ≡ true }
+        requires fits { AllZip FitsPartition self.old.partitions (contents_of self.old.sources) }
+        ensures described { IsDescribed self.old.columns self.old.partitions (length self.old.sources) }
+        ensures columns { self.new.columns ≡ self.old.columns }
+        ensures partitions { self.new.partitions ≡ self.old.partitions }
+        ensures batches { IfOk result (λ v. map given v.items ≡ table_batches keep.now self.old.partitions self.old.sources) }
+        ensures roots { IfOk result (λ v. AreOfFirstRoot v.items) }
+        ensures fetched { OnOk result (map (λ (s : MemoryState Chunk). s.journal) self.new.sources ≡ journals_after self.old.partitions self.old.sources) }
+        ensures stands { AllZip Stands self.old.sources self.new.sources }
+    {
+        scan_sources(alloc, self.partitions.as_slice(), &mut self.sources, keep)
     }
 }

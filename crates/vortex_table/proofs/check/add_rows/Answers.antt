@@ -1,4 +1,4 @@
-use Rattle.std.proofs.Common.{◌≡◌, ◌<◌, ◌+◌, ◌^◌, ap, arith, take}
+use Rattle.std.proofs.Common.{◌≡◌, ap, arith, take}
 use Rattle.std.specs.Prelude.{sum_by}
 use Rattle.std.proofs.lemmas.List.{take_all}
 use Rattle.vortex_table.specs.declared.describe.SplitDesc.{SplitDesc}

@@ -1,4 +1,4 @@
-use Rattle.std.proofs.Common.{◌≡◌, below_more, arith, length, get_or, refl}
+use Rattle.std.proofs.Common.{below_more, arith, get_or, refl}
 use Rattle.vortex_table.specs.Described.{IsChunkOf}
 use Rattle.vortex_table.proofs.Zipped.{zipped, zipped-at, zipped-long, zipped-read, from_false}
 use Rattle.vortex_table.proofs.check.are_chunks_of.Goals as goal

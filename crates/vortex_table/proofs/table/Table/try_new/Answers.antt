@@ -1,5 +1,4 @@
-use Rattle.std.proofs.Common.{◌≡◌, ◌∙◌, ap, sym, length}
-use Rattle.vortex_table.specs.Described.{IsDescribed}
+use Rattle.std.proofs.Common.{◌≡◌, ◌∙◌, ap, length}
 use Rattle.vortex_table.specs.State.{IsCleared}
 use Rattle.vortex_table.proofs.Zipped.{zipped-all, zipped-long}
 use Rattle.vortex_table.proofs.table.Table.try_new.Goals as goal

@@ -1,5 +1,7 @@
+pub mod Answering
 pub mod Cut
 pub mod Digits
+pub mod Forms
 pub mod Gives
 pub mod Lines
 pub mod Only

@@ -2,7 +2,7 @@
 use Rattle.std.proofs.Common.{◌≡◌, ◌<◌, ◌+◌, ◌++◌, ◌∙◌, ap, sym, refl, arith, add-one, ℕ, zero, suc, pos, List, [], ◌∷◌, length, map, take, get_or, Some, append_assoc}
 use Rattle.std.specs.Prelude.{decimal, flat_map, All, Option}
 use Rattle.std.specs.List.{range_with_len}
-use Rattle.std.proofs.lemmas.List.{append-nil, flat_map_more, take_more, map_more}
+use Rattle.std.proofs.lemmas.List.{append-nil, flat_map_more, map_more}
 use Rattle.std.proofs.lemmas.Grind.{flat_map-append}
 use Rattle.csv.specs.Writing.{default_writer, row_text}
 use Rattle.vortex_array.specs.declared.types.DType.{DType}
@@ -21,10 +21,11 @@ use Rattle.vortex_array.specs.ColumnOf.{column_of, primitive_column}
 use Rattle.vortex_table.specs.declared.scan.request.Projection.{Projection}
 use Rattle.vortex_table.specs.declared.scan.request.Projection.TheVariants as projection
 use Rattle.vortex_table.specs.Built.{u64_type}
+use Rattle.vortex_table.specs.Given.{given}
 use Rattle.vortex_table.specs.Table.{row_at}
 use Rattle.vortex_table.specs.declared.scan.batch.Batch.{Batch}
 use Rattle.vortex_table.specs.Turn.{batch_rows}
-use Rattle.vortex_query.specs.Shown.{IsOneU64Column, given, number_row, numbers_in, numbers_under, rows_of}
+use Rattle.vortex_query.specs.Shown.{IsOneU64Column, number_row, numbers_in, numbers_under, rows_of}
 use Rattle.vortex_query.specs.Text.{header_cell, line_text, text}
 
 -- the line of a number under the one column
@@ -105,7 +106,7 @@ batch_numbers rows (a ∷ b ∷ rest) d e long = absurd (cc e)
 -- the rows of one more batch
 pub rows_more : (batches : List Batch) (i : ℕ) (b : Batch) → b ≡ get_or batches i b → i < length batches → rows_of (take (i + 1) batches) ≡ rows_of (take i batches) ++ batch_rows (given b)
 rows_more batches i b is h =
-    ap rows_of (take_more batches i b h)
-    ∙ flat_map-append (λ x. batch_rows (given x)) (take i batches) (get_or batches i b ∷ [])
+    ap (flat_map batch_rows) (map_more given batches i b h)
+    ∙ flat_map-append batch_rows (map given (take i batches)) (given (get_or batches i b) ∷ [])
     ∙ ap (λ rows. rows_of (take i batches) ++ rows) (append-nil (batch_rows (given (get_or batches i b))))
     ∙ ap (λ x. rows_of (take i batches) ++ batch_rows (given x)) (sym is)

@@ -6,3 +6,5 @@ pub mod Numbered
 pub mod Spelled
 pub mod Text
 pub mod Shown
+pub mod Query
+pub mod Refused

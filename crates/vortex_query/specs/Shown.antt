@@ -11,17 +11,13 @@ use Rattle.vortex_array.specs.declared.column.ColumnDesc.{ColumnDesc}
 use Rattle.vortex_array.specs.Cells.{Row}
 use Rattle.vortex_array.specs.ColumnOf.{column_of}
 use Rattle.vortex_table.specs.declared.scan.batch.Batch.{Batch}
-use Rattle.vortex_table.specs.Answers.{Given}
+use Rattle.vortex_table.specs.Given.{given}
 use Rattle.vortex_table.specs.Built.{u64_type}
 use Rattle.vortex_table.specs.Turn.{batch_rows}
 
--- what an answer says of a batch
-abbrev pub given : Batch → Given
-given b = record { scope = b.scope; rows = b.array.rows; columns = map column_of b.array.columns }
-
 -- the rows of the batches together
 abbrev pub rows_of : List Batch → List Row
-rows_of batches = flat_map (λ b. batch_rows (given b)) batches
+rows_of batches = flat_map batch_rows (map given batches)
 
 -- the one column has whole numbers of 64 bits without sign and without nulls
 abbrev pub IsOneU64Column : List ColumnDesc → Type 0

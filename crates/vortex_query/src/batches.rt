@@ -2,9 +2,10 @@
 ghost use Rattle.std.specs.Prelude.{◌≡◌, ◌++◌, ◌∷◌, [], All, IfOk, OnOk, List, ℕ, Some, map, flat_map};
 ghost use Rattle.csv.specs.Writing.{default_writer, row_text};
 ghost use Rattle.vortex_array.specs.ColumnOf.{column_of};
-ghost use Rattle.vortex_query.specs.Shown.{Holds, IsOneU64Batch, IsOneU64Column, given, number_row, numbers_in, numbers_under, rows_of};
+ghost use Rattle.vortex_query.specs.Shown.{Holds, IsOneU64Batch, IsOneU64Column, number_row, numbers_in, numbers_under, rows_of};
 ghost use Rattle.vortex_query.specs.Text.{header_cell as cell_text, line_text, text, type_text};
 ghost use Rattle.vortex_table.specs.Built.{u64_type};
+ghost use Rattle.vortex_table.specs.Given.{given};
 ghost use Rattle.vortex_table.specs.Turn.{batch_rows};
 ghost use Rattle.vortex_table.specs.declared.scan.request.Projection.TheVariants as projections;
 

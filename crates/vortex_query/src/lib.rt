@@ -4,10 +4,16 @@
 
 mod batches;
 mod options;
+mod program;
 mod request;
 mod table_text;
 
 pub use batches::rows_text;
 pub use options::{Encode, Options};
+pub use program::{query, refuse_words};
 pub use request::{RequestError, request_of};
 pub use table_text::{TableTextError, table_of};
+pub use vortex_streams::{
+    ByteSink, ByteSource, Failed, MemoryInput, MemoryOutput, PlainInput, PlainOutput, ReadError,
+    StdErrors, StdInput, StdOutput, read_all, write_all,
+};

@@ -1,7 +1,8 @@
 use Rattle.std.proofs.Common.{◌≡◌, ◌∙◌, [], ap, take, arith}
 use Rattle.std.proofs.lemmas.List.{append-nil, take_all}
 use Rattle.vortex_table.specs.Turn.{batch_rows}
-use Rattle.vortex_query.specs.Shown.{given, rows_of}
+use Rattle.vortex_table.specs.Given.{given}
+use Rattle.vortex_query.specs.Shown.{rows_of}
 use Rattle.vortex_query.specs.Text.{text}
 use Rattle.vortex_query.proofs.Lines.{one_header, more_rows, rows_more}
 use Rattle.vortex_query.proofs.batches.rows_text.Goals as goal

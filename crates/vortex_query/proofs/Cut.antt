@@ -10,9 +10,6 @@ use mir.Syntax.{w64}
 use Rattle.vortex_array.specs.declared.scalar.Value.TheVariants.{Int}
 use Rattle.vortex_array.specs.declared.column.ColumnDesc.{ColumnDesc}
 use Rattle.vortex_array.specs.Row.{Column, fits_type}
-use Rattle.vortex_io.specs.declared.memory.Arrive.{Arrive}
-use Rattle.vortex_io.specs.declared.memory.Arrive.TheVariants.{OnWait}
-use Rattle.vortex_io.specs.declared.memory.Order.TheVariants.{First}
 use Rattle.vortex_io.specs.Memory.{MemoryState}
 use Rattle.vortex_table.specs.declared.chunk.Chunk.{Chunk}
 use Rattle.vortex_table.specs.declared.describe.PartitionDesc.{PartitionDesc}
@@ -90,10 +87,6 @@ cleared_contents (x ∷ xs) [] z = absurd z
 cleared_contents (x ∷ xs) (y ∷ ys) z =
     let same : y.chunks ≡ x.chunks = cc z.0.chunks in
     ap (λ chunks. content_of chunks ∷ contents_of ys) same ∙ ap (λ rest. content_of x.chunks ∷ rest) (cleared_contents xs ys z.1)
-
--- there is one way to arrive
-pub arrives_first : (arrive : Arrive) → arrive ≡ OnWait First
-arrives_first (OnWait First) = refl
 
 -- ---- the table
 

@@ -2,7 +2,7 @@ use Rattle.std.proofs.Common.{ℕ, zero, suc, ◌+◌, ◌-◌, ◌*◌, ◌^◌
 use Rattle.std.specs.Int.{bit_at, bit_not, w64}
 use Rattle.std.specs.Prelude.{bit_and, bit_or, count_ones}
 use Rattle.std.specs.List.{count_by, sum_by}
-use Rattle.std.specs.Simd.Lanes.{zip2}
+use Rattle.std.specs.Simd.Lanes.{mask_l, zip2}
 use Rattle.std.proofs.lemmas.Simd.{mask_l-lt, get_or-zip2, length-zip2}
 use Rattle.std.proofs.lemmas.List.{get_or-take, get_or-drop, get_or_past, get_or_append_left, get_or-append-add, get_or-map, ext_get_or, take_more, take_all}
 use Rattle.std.proofs.lemmas.List.FromFn.{length-map-range_with_len, get_or-map-range_with_len}
@@ -96,6 +96,15 @@ words_of-append xs ys n long =
     ∙ sym (get_or-append-add (words_of xs) (words_of ys) (k - n) 0)
     ∙ ap (λ m. get_or (words_of xs ++ words_of ys) m 0) place)
     (cases_lt k n))
+
+-- at most 64 bits have one word
+pub words_of-one : (bits : List Bool) → 0 < length bits → length bits ≤ 64 → words_of bits ≡ mask_l bits ∷ []
+unfolding word_of
+words_of-one bits some small =
+    same_words (words_of bits) (mask_l bits ∷ []) (omega (arith, length-words_of bits))
+    (λ k l.
+    let first : k ≡ 0 = omega (arith, length-words_of bits, l) in
+    ap (λ j. get_or (words_of bits) j 0) first ∙ get_or-words_of bits 0 ∙ ap mask_l (take_all 64 bits small) ∙ ap (λ j. get_or (mask_l bits ∷ []) j 0) (sym first))
 
 -- take: the words of the first bits, as many as whole words hold, are the first words
 pub words_of-take : (bits : List Bool) (n : ℕ) → words_of (take (64 * n) bits) ≡ take n (words_of bits)

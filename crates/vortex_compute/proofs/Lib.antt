@@ -1,0 +1,4 @@
+pub mod Pairs
+pub mod MapSteps
+pub mod WordSteps
+pub mod Failures

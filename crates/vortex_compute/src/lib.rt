@@ -1,0 +1,22 @@
+//! Lane kernels.
+#![tactic(auto)]
+
+mod fail_word;
+mod lane_default;
+mod mapping;
+mod packing;
+mod refusing;
+mod same_bits;
+mod sink;
+mod source;
+
+pub use fail_word::FailWord;
+pub use lane_default::LaneDefault;
+pub use mapping::{map_checked_into, map_into, map_masked_into};
+pub use packing::{
+    bit_buffer_from_words, collect_bits, collect_lane_bits, collect_zip_bits, map_bits_into,
+};
+pub use refusing::{try_map_into, try_map_masked_into};
+pub use same_bits::SameBits;
+pub use sink::{IndexedSink, LanesMut, ReinterpretSink};
+pub use source::{IndexedSource, LaneZip, Lanes, Repeat};

@@ -23,7 +23,7 @@ use Rattle.std.proofs.lemmas.List.{get_or-replicate}
 use Rattle.std.proofs.lemmas.Nat.Bits.{same_from_bits_below}
 use mir.Val.{bool_byte}
 
-none_from_some : {R : Type 0} (o : Option R) (b : Bool) → is_some o ≡ not b → b ≡ is_none o
+pub none_from_some : {R : Type 0} (o : Option R) (b : Bool) → is_some o ≡ not b → b ≡ is_none o
 none_from_some None true e = refl
 none_from_some None false e = cc
 none_from_some (Some x) true e = cc
@@ -61,12 +61,12 @@ bit_none : (b : Bool) → cond {A = ℕ} b 1 0 ≡ 0 → b ≡ false
 bit_none true e = absurd (omega arith)
 bit_none false e = refl
 
-bit_some : (b : Bool) → cond {A = ℕ} b 1 0 ≡ 1 → b ≡ true
+pub bit_some : (b : Bool) → cond {A = ℕ} b 1 0 ≡ 1 → b ≡ true
 bit_some true e = refl
 bit_some false e = absurd (omega arith)
 
 -- bit j of the valid failures of a group
-masked_at : {R : Type 0} (bits : List Bool) (more : List (Option R)) (k word j : ℕ) → j < 64 → j < length more → word ≡ mask_l (map is_none more) → bit_at (bit_and word (word_of bits k)) j ≡ cond (get_or bits (64 * k + j) false && is_none (get_or more j None)) 1 0
+pub masked_at : {R : Type 0} (bits : List Bool) (more : List (Option R)) (k word j : ℕ) → j < 64 → j < length more → word ≡ mask_l (map is_none more) → bit_at (bit_and word (word_of bits k)) j ≡ cond (get_or bits (64 * k + j) false && is_none (get_or more j None)) 1 0
 masked_at bits more k word j small within is =
     bit_at_and word (word_of bits k) j
     ∙ ap (λ w. min (bit_at w j) (bit_at (word_of bits k) j)) is
@@ -75,7 +75,7 @@ masked_at bits more k word j small within is =
     ∙ both_bits (is_none (get_or more j None)) (get_or bits (64 * k + j) false)
 
 -- a set bit belongs to a lane of the group
-masked_within : {R : Type 0} (bits : List Bool) (more : List (Option R)) (k word j : ℕ) → word ≡ mask_l (map is_none more) → bit_at (bit_and word (word_of bits k)) j ≡ 1 → j < length more
+pub masked_within : {R : Type 0} (bits : List Bool) (more : List (Option R)) (k word j : ℕ) → word ≡ mask_l (map is_none more) → bit_at (bit_and word (word_of bits k)) j ≡ 1 → j < length more
 masked_within bits more k word j is one =
     ⊎_elim
     (λ (inside : j < length more). inside)
@@ -85,14 +85,14 @@ masked_within bits more k word j is one =
     absurd (omega (arith, none, both, one)))
     (cases_lt j (length more))
 
-fails_right : {R : Type 0} (bits : List Bool) (answers more : List (Option R)) (k j : ℕ) → length answers ≡ 64 * k → fails_at bits (answers ++ more) (64 * k + j) ≡ (get_or bits (64 * k + j) false && is_none (get_or more j None))
+pub fails_right : {R : Type 0} (bits : List Bool) (answers more : List (Option R)) (k j : ℕ) → length answers ≡ 64 * k → fails_at bits (answers ++ more) (64 * k + j) ≡ (get_or bits (64 * k + j) false && is_none (get_or more j None))
 fails_right bits answers more k j long = ap (λ o. get_or bits (64 * k + j) false && is_none o) (ap (λ n. get_or (answers ++ more) (n + j) None) (sym long) ∙ get_or-append-add answers more j None)
 
 fails_left : {R : Type 0} (bits : List Bool) (answers more : List (Option R)) (i : ℕ) → i < length answers → fails_at bits (answers ++ more) i ≡ fails_at bits answers i
 fails_left bits answers more i h = ap (λ o. get_or bits i false && is_none o) (get_or_append_left answers more None i h)
 
 -- no valid lane of the group failed
-passes_on : {R : Type 0} (bits : List Bool) (answers more : List (Option R)) (k word i : ℕ) → length answers ≡ 64 * k → length more ≤ 64 → word ≡ mask_l (map is_none more) → bit_and word (word_of bits k) ≡ 0 → ((j : ℕ) → j < 64 * k → fails_at bits answers j ≡ false) → i < 64 * k + length more → fails_at bits (answers ++ more) i ≡ false
+pub passes_on : {R : Type 0} (bits : List Bool) (answers more : List (Option R)) (k word i : ℕ) → length answers ≡ 64 * k → length more ≤ 64 → word ≡ mask_l (map is_none more) → bit_and word (word_of bits k) ≡ 0 → ((j : ℕ) → j < 64 * k → fails_at bits answers j ≡ false) → i < 64 * k + length more → fails_at bits (answers ++ more) i ≡ false
 passes_on bits answers more k word i long small is none before l =
     ⊎_elim
     (λ (left : i < 64 * k). fails_left bits answers more i (rw long left) ∙ before i left)
@@ -118,10 +118,10 @@ masked_more P d lanes bits now new k m j word small end inside h w none =
       written = ap (λ n. take n new) end ∙ w.written ∙ ap (λ ys. ys ++ map (λ o. unwrap_or o d) w.answers) h.written ∙ sym (map-append (λ o. unwrap_or o d) h.answers w.answers);
     }
 
-fits_masked : (word : ℕ) (bits : List Bool) (k : ℕ) → bit_and word (word_of bits k) < 2 ^ 64
+pub fits_masked : (word : ℕ) (bits : List Bool) (k : ℕ) → bit_and word (word_of bits k) < 2 ^ 64
 fits_masked word bits k = omega (arith, and_le_r word (word_of bits k), word_of-lt bits k)
 
-before_fails : {R : Type 0} (bits : List Bool) (answers more : List (Option R)) (k word tz j : ℕ) → length answers ≡ 64 * k → word ≡ mask_l (map is_none more) → tz < 64 → tz < length more → ((i : ℕ) → i < 64 * k → fails_at bits answers i ≡ false) → ((i : ℕ) → i < tz → bit_at (bit_and word (word_of bits k)) i ≡ 0) → j < 64 * k + tz → fails_at bits (answers ++ more) j ≡ false
+pub before_fails : {R : Type 0} (bits : List Bool) (answers more : List (Option R)) (k word tz j : ℕ) → length answers ≡ 64 * k → word ≡ mask_l (map is_none more) → tz < 64 → tz < length more → ((i : ℕ) → i < 64 * k → fails_at bits answers i ≡ false) → ((i : ℕ) → i < tz → bit_at (bit_and word (word_of bits k)) i ≡ 0) → j < 64 * k + tz → fails_at bits (answers ++ more) j ≡ false
 before_fails bits answers more k word tz j long is small inside before low l =
     ⊎_elim
     (λ (left : j < 64 * k). fails_left bits answers more j (rw long left) ∙ before j left)
@@ -175,7 +175,7 @@ all_failures n k m word more long small inside is =
     bit_at_and word (word_of (replicate n true) k) j ∙ ap (λ b. min b (bit_at (word_of (replicate n true) k) j)) none ∙ none_left (bit_at (word_of (replicate n true) k) j) ∙ sym none)
     (cases_lt j (length more)))
 
-clash : true ≡ false → ⊥
+pub clash : true ≡ false → ⊥
 clash e = cc
 
 -- answers of which none is none are values

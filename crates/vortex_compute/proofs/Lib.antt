@@ -2,3 +2,4 @@ pub mod Pairs
 pub mod MapSteps
 pub mod WordSteps
 pub mod Failures
+pub mod InPlaceSteps

@@ -2,6 +2,7 @@
 #![tactic(auto)]
 
 mod fail_word;
+mod in_place;
 mod lane_default;
 mod mapping;
 mod packing;
@@ -11,6 +12,7 @@ mod sink;
 mod source;
 
 pub use fail_word::FailWord;
+pub use in_place::{map_into_in_place, try_map_in_place, try_map_masked_in_place};
 pub use lane_default::LaneDefault;
 pub use mapping::{map_checked_into, map_into, map_masked_into};
 pub use packing::{

@@ -1,4 +1,4 @@
-use Rattle.std.specs.Prelude.{ℕ, ◌+◌, ◌-◌, ◌*◌, ◌/◌, ◌%◌, ◌^◌, ◌<◌, ◌≡◌, ◌==◌, Bool, List, length, get_or, take, drop, map, min}
+use Rattle.std.specs.Prelude.{ℕ, ◌+◌, ◌-◌, ◌*◌, ◌/◌, ◌%◌, ◌^◌, ◌<◌, ◌≡◌, ◌==◌, Bool, List, ◌++◌, length, get_or, take, drop, map, min}
 use Rattle.std.specs.Int.{bit_at}
 use Rattle.std.specs.List.{range_with_len}
 use Rattle.std.specs.Simd.Lanes.{mask_l}
@@ -22,6 +22,10 @@ word_of bits k = mask_l (take 64 (drop (64 * k) bits))
 -- the words of a list of bits, as many as it takes; spare bits of the last word are 0
 unfoldable pub words_of : List Bool → List ℕ
 words_of bits = map (λ k. word_of bits k) (range_with_len 0 (words_for (length bits)))
+
+-- the words of a list of bits, written over the first of these words; all further ones stay
+abbrev pub packed_over : List Bool → List ℕ → List ℕ
+packed_over bits old = words_of bits ++ drop (words_for (length bits)) old
 
 -- words hold n bits and no more: they are as many as n bits take, and every spare bit is 0
 pub record HoldsBits (n : ℕ) (words : List ℕ) : Type 0 where

@@ -3,3 +3,4 @@ pub mod MapSteps
 pub mod WordSteps
 pub mod Failures
 pub mod InPlaceSteps
+pub mod PairOrder

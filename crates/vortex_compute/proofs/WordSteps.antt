@@ -1,15 +1,16 @@
-use Rattle.std.proofs.Common.{ℕ, suc, ◌+◌, ◌*◌, ◌/◌, ◌%◌, ◌^◌, ◌<◌, ◌≤◌, ◌≡◌, ◌≢◌, Bool, true, false, cond, List, [], ◌∷◌, ◌++◌, length, get_or, take, drop, set, refl, sym, ap, ◌∙◌, arith, length-take, length-drop, length-append, append_assoc, append-nil, drop-cons, ⊎_elim}
+use Rattle.std.proofs.Common.{ℕ, suc, ◌+◌, ◌*◌, ◌/◌, ◌%◌, ◌^◌, ◌<◌, ◌≤◌, ◌≡◌, ◌≢◌, Bool, true, false, cond, List, [], ◌∷◌, ◌++◌, length, get_or, take, drop, set, map, refl, sym, ap, ◌∙◌, arith, length-take, length-drop, length-append, append_assoc, append-nil, drop-cons, ⊎_elim}
 use Rattle.std.specs.Int.RustNames.{bit_or}
-use Rattle.std.specs.List.{AllZip}
+use Rattle.std.specs.List.{AllZip, All}
 use Rattle.std.specs.Simd.Lanes.{mask_l}
 use Rattle.std.specs.Int.Bits.{or_shifted_r}
 use Rattle.std.proofs.lemmas.Nat.{shl_whole}
 use Rattle.std.proofs.lemmas.Simd.{mask_l-lt}
 use Rattle.std.proofs.lemmas.Slice.Zip.{all_zipped_more, AllZip-long}
 use Rattle.std.proofs.lemmas.List.{drop_all, take_more}
+use Rattle.std.proofs.lemmas.List.Elements.{All-head, All-tail}
 use Rattle.std.proofs.Math.Seq.{set-append_seam}
 use mir.Val.{bool_byte}
-use Rattle.vortex_buffer.specs.Bits.{words_of, words_for, bits_of}
+use Rattle.vortex_buffer.specs.Bits.{words_of, words_for, bits_of, packed_over}
 use Rattle.vortex_buffer.proofs.WordLaws.{length-words_of, words_of-append, words_of-one, bits_of-words_of}
 use Rattle.vortex_compute.specs.Answers.{MapsBits}
 use Rattle.vortex_compute.specs.Groups.{PackedGroup}
@@ -58,8 +59,8 @@ group_more P lanes old now n m j word some small end inside within h w =
     let first : length (take (64 * n) lanes) ≡ 64 * n = omega (arith, length-take (64 * n) lanes, end, inside) in
     let long : length h.answers ≡ 64 * n = AllZip-long P (take (64 * n) lanes) h.answers h.each ∙ first in
     let more : length w.answers ≡ m = AllZip-long P (take m (drop (64 * n) lanes)) w.answers w.each ∙ omega (arith, length-take m (drop (64 * n) lanes), length-drop (64 * n) lanes, end, inside) in
-    let before : words_for (length (take (64 * n) lanes)) ≡ n = omega (arith, first) in
-    let after : words_for (length (take j lanes)) ≡ n + 1 = omega (arith, length-take j lanes, end, inside) in
+    let before : words_for (length h.answers) ≡ n = omega (arith, long) in
+    let after : words_for (length (h.answers ++ w.answers)) ≡ n + 1 = omega (arith, length-append h.answers w.answers, long, more, some, small) in
     let next : suc n ≡ n + 1 = omega arith in
     let words : n ≡ length (words_of h.answers) = omega (arith, length-words_of h.answers, long) in
     let rest : drop n old ≡ get_or old n 0 ∷ drop (n + 1) old = drop-cons old n 0 within ∙ ap (λ k. get_or old n 0 ∷ drop k old) next in
@@ -86,6 +87,17 @@ none_packed P lanes old = record { answers = []; each = tt; written = refl }
 pub bits_of-written : {X : Type 0} (P : X → Bool → Type 0) (lanes : List X) (n : ℕ) (old new : List ℕ) → length lanes ≡ n → length old ≡ words_for n → (h : MapsBits P lanes old new) → bits_of n new ≡ h.answers
 bits_of-written P lanes n old new long room h =
     let all : length h.answers ≡ n = AllZip-long P lanes h.answers h.each ∙ long in
-    ap (bits_of n) (h.written ∙ ap (λ ws. words_of h.answers ++ ws) (drop_all (words_for (length lanes)) old (omega (arith, room, long))) ∙ append-nil (words_of h.answers))
+    ap (bits_of n) (h.written ∙ ap (λ ws. words_of h.answers ++ ws) (drop_all (words_for (length h.answers)) old (omega (arith, room, all))) ∙ append-nil (words_of h.answers))
     ∙ ap (λ k. bits_of k (words_of h.answers)) (sym all)
     ∙ bits_of-words_of h.answers
+
+function_answers : {X : Type 0} (P : X → Bool → Type 0) (Q : X → Type 0) (t : X → Bool) (lanes : List X) (answers : List Bool) → ((x : X) (b : Bool) → Q x → P x b → b ≡ t x) → All Q lanes → AllZip P lanes answers → answers ≡ map t lanes
+function_answers P Q t [] [] says all each = refl
+function_answers P Q t [] (b ∷ bs) says all each = absurd each
+function_answers P Q t (x ∷ xs) [] says all each = absurd each
+function_answers P Q t (x ∷ xs) (b ∷ bs) says all each =
+    ap (λ c. c ∷ bs) (says x b (All-head Q x xs all) each.0) ∙ ap (λ cs. t x ∷ cs) (function_answers P Q t xs bs says (All-tail Q x xs all) each.1)
+
+-- where each answer is a function of its lane, the words of that function were written
+pub packs_function : {X : Type 0} (P : X → Bool → Type 0) (Q : X → Type 0) (t : X → Bool) (lanes : List X) (old new : List ℕ) → ((x : X) (b : Bool) → Q x → P x b → b ≡ t x) → All Q lanes → MapsBits P lanes old new → new ≡ packed_over (map t lanes) old
+packs_function P Q t lanes old new says all h = h.written ∙ ap (λ bits. packed_over bits old) (function_answers P Q t lanes h.answers says all h.each)

@@ -1,7 +1,7 @@
 use Rattle.std.specs.Prelude.{ℕ, ◌+◌, ◌*◌, ◌/◌, ◌<◌, ◌≡◌, Bool, true, false, ◌&&◌, cond, List, ◌++◌, length, get_or, take, drop, map, min, replicate, Option, None, is_none, unwrap_or}
 use Rattle.std.specs.List.{AllZip, fold}
 use Rattle.std.specs.Simd.Lanes.{zip2}
-use Rattle.vortex_buffer.specs.Bits.{words_of, words_for}
+use Rattle.vortex_buffer.specs.Bits.{packed_over}
 
 -- Each call of a kernel has one list of answers, of which answer i is one that the closure gave to lane i.
 -- `AllZip P lanes answers` says so, where `P lane answer` says that the closure may give that answer to that lane.
@@ -31,11 +31,11 @@ pub record MapsChecked {X R W : Type 0} (P : X → R × W → Type 0) (none : W)
   pub written : new ≡ map (λ answer. answer.0) answers
   pub failures : word ≡ fold or none (map (λ answer. answer.1) answers)
 
--- the words of the answers were written over the first words, and all further words stayed
+-- the words of the answers were written over the first of the old words, and all further words stayed
 pub record MapsBits {X : Type 0} (P : X → Bool → Type 0) (lanes : List X) (old new : List ℕ) : Type 0 where
   pub answers : List Bool
   pub each : AllZip P lanes answers
-  pub written : new ≡ words_of answers ++ drop (words_for (length lanes)) old
+  pub written : new ≡ packed_over answers old
 
 -- no valid lane failed, and each lane, null or not, holds the value of its answer, or the default d where that is none
 pub record MapsLanes {X R : Type 0} (P : X → Option R → Type 0) (d : R) (lanes : List X) (mask : List Bool) (new : List R) : Type 0 where

@@ -1,6 +1,7 @@
 //! Lane kernels.
 #![tactic(auto)]
 
+mod compare;
 mod fail_word;
 mod in_place;
 mod lane_default;
@@ -11,6 +12,7 @@ mod same_bits;
 mod sink;
 mod source;
 
+pub use compare::{CompareOperator, compare_i64_bits, compare_u64_bits, compare_words_bits};
 pub use fail_word::FailWord;
 pub use in_place::{map_into_in_place, try_map_in_place, try_map_masked_in_place};
 pub use lane_default::LaneDefault;

@@ -11,7 +11,7 @@ use Rattle.std.proofs.lemmas.List.{take_more, take_more_set, map-append, get_or-
 use Rattle.std.proofs.lemmas.Slice.Zip.{all_zipped_more, AllZip-long}
 use Rattle.vortex_buffer.specs.Bits.{word_of}
 use Rattle.vortex_buffer.proofs.Bits.{bit_at-word_of, word_of-lt}
-use Rattle.vortex_compute.specs.Answers.{fails_at, all_valid, group_end, MapsLanes, FailsFirst}
+use Rattle.vortex_compute.specs.Answers.{fails_at, all_valid, MapsLanes, FailsFirst}
 use Rattle.vortex_compute.specs.Groups.{TriedGroup}
 use Rattle.vortex_compute.proofs.MapSteps.{take-add, AllZip-append}
 use Rattle.vortex_compute.proofs.WordSteps.{push_word}
@@ -23,6 +23,7 @@ use Rattle.std.proofs.lemmas.List.{get_or-replicate}
 use Rattle.std.proofs.lemmas.Nat.Bits.{same_from_bits_below}
 use mir.Val.{bool_byte}
 
+-- the code's test for none is the definition's
 pub none_from_some : {R : Type 0} (o : Option R) (b : Bool) → is_some o ≡ not b → b ≡ is_none o
 none_from_some None true e = refl
 none_from_some None false e = cc
@@ -48,19 +49,23 @@ group_step P d lanes base i word old now x o small within read room h here =
           ∙ ap (λ ys. take base old ++ ys) (sym (map-append (λ p. unwrap_or p d) h.answers (o ∷ [])));
     }
 
+-- one more lane of a group, as the code writes it
 pub group_step_as : {X R : Type 0} (P : X → Option R → Type 0) (d : R) (lanes : List X) (base i word : ℕ) (old now : List R) (x : X) (o : Option R) (v : R) (b : Bool) → v ≡ unwrap_or o d → is_some o ≡ not b → i < 64 → i < length lanes → x ≡ get_or lanes i x → base + i < length now → TriedGroup P d (take i lanes) base i old now word → P x o → TriedGroup P d (take (i + 1) lanes) base (i + 1) old (set now (base + i) v) (bit_or word (bool_byte b * 2 ^ i % 2 ^ 64))
 group_step_as P d lanes base i word old now x o v b ev eb small within read room h here = rw (ev, none_from_some o b eb) (group_step P d lanes base i word old now x o small within read room h here)
 
+-- and, as the lesser of two bits
 both_bits : (a b : Bool) → min (cond a 1 0) (cond b 1 0) ≡ cond {A = ℕ} (b && a) 1 0
 both_bits true true = refl
 both_bits true false = refl
 both_bits false true = refl
 both_bits false false = refl
 
+-- an unset bit as a truth
 bit_none : (b : Bool) → cond {A = ℕ} b 1 0 ≡ 0 → b ≡ false
 bit_none true e = absurd (omega arith)
 bit_none false e = refl
 
+-- a set bit as a truth
 pub bit_some : (b : Bool) → cond {A = ℕ} b 1 0 ≡ 1 → b ≡ true
 bit_some true e = refl
 bit_some false e = absurd (omega arith)
@@ -85,9 +90,11 @@ masked_within bits more k word j is one =
     absurd (omega (arith, none, both, one)))
     (cases_lt j (length more))
 
+-- whether a lane of a further group fails
 pub fails_right : {R : Type 0} (bits : List Bool) (answers more : List (Option R)) (k j : ℕ) → length answers ≡ 64 * k → fails_at bits (answers ++ more) (64 * k + j) ≡ (get_or bits (64 * k + j) false && is_none (get_or more j None))
 fails_right bits answers more k j long = ap (λ o. get_or bits (64 * k + j) false && is_none o) (ap (λ n. get_or (answers ++ more) (n + j) None) (sym long) ∙ get_or-append-add answers more j None)
 
+-- whether a lane fails does not depend on later answers
 fails_left : {R : Type 0} (bits : List Bool) (answers more : List (Option R)) (i : ℕ) → i < length answers → fails_at bits (answers ++ more) i ≡ fails_at bits answers i
 fails_left bits answers more i h = ap (λ o. get_or bits i false && is_none o) (get_or_append_left answers more None i h)
 
@@ -118,9 +125,11 @@ masked_more P d lanes bits now new k m j word small end inside h w none =
       written = ap (λ n. take n new) end ∙ w.written ∙ ap (λ ys. ys ++ map (λ o. unwrap_or o d) w.answers) h.written ∙ sym (map-append (λ o. unwrap_or o d) h.answers w.answers);
     }
 
+-- the word of the valid failures has 64 bits
 pub fits_masked : (word : ℕ) (bits : List Bool) (k : ℕ) → bit_and word (word_of bits k) < 2 ^ 64
 fits_masked word bits k = omega (arith, and_le_r word (word_of bits k), word_of-lt bits k)
 
+-- no lane before the first failure failed
 pub before_fails : {R : Type 0} (bits : List Bool) (answers more : List (Option R)) (k word tz j : ℕ) → length answers ≡ 64 * k → word ≡ mask_l (map is_none more) → tz < 64 → tz < length more → ((i : ℕ) → i < 64 * k → fails_at bits answers i ≡ false) → ((i : ℕ) → i < tz → bit_at (bit_and word (word_of bits k)) i ≡ 0) → j < 64 * k + tz → fails_at bits (answers ++ more) j ≡ false
 before_fails bits answers more k word tz j long is small inside before low l =
     ⊎_elim
@@ -175,6 +184,7 @@ all_failures n k m word more long small inside is =
     bit_at_and word (word_of (replicate n true) k) j ∙ ap (λ b. min b (bit_at (word_of (replicate n true) k) j)) none ∙ none_left (bit_at (word_of (replicate n true) k) j) ∙ sym none)
     (cases_lt j (length more)))
 
+-- true is not false
 pub clash : true ≡ false → ⊥
 clash e = cc
 

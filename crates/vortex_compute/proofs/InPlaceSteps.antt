@@ -1,6 +1,6 @@
-use Rattle.std.proofs.Common.{ℕ, ◌+◌, ◌*◌, ◌<◌, ◌≤◌, ◌≡◌, Bool, List, [], ◌∷◌, ◌++◌, length, get_or, take, drop, set, map, refl, sym, ap, ◌∙◌, arith, length-take, length-drop, length-append, append_assoc, append-nil, Option, Some, None, w64, cond, true, false, not, min, suc, ◌&&◌, ◌%◌, ◌^◌}
+use Rattle.std.proofs.Common.{ℕ, ◌+◌, ◌*◌, ◌<◌, ◌≤◌, ◌≡◌, Bool, List, [], ◌∷◌, ◌++◌, length, get_or, take, drop, set, map, refl, sym, ap, ◌∙◌, arith, length-take, length-drop, length-append, append_assoc, append-nil, Option, Some, None, w64, true, false, not, min, suc, ◌&&◌, ◌%◌, ◌^◌}
 use Rattle.std.specs.Option.{is_none, is_some, unwrap_or}
-use Rattle.std.specs.Int.{bit_at, trailing_zeros}
+use Rattle.std.specs.Int.{trailing_zeros}
 use Rattle.std.specs.Int.Bits.{bit_or, bit_and}
 use Rattle.std.specs.Simd.Lanes.{mask_l}
 use Rattle.std.proofs.lemmas.Nat.Bits.{bit_at-trailing_zeros}
@@ -8,7 +8,7 @@ use Rattle.std.proofs.lemmas.List.{length-map, get_or-replicate}
 use Rattle.std.proofs.lemmas.Simd.{map-map}
 use mir.Val.{bool_byte}
 use Rattle.vortex_buffer.specs.Bits.{word_of}
-use Rattle.vortex_compute.specs.Answers.{fails_at, all_valid}
+use Rattle.vortex_compute.specs.Answers.{all_valid}
 use Rattle.vortex_compute.proofs.WordSteps.{push_word}
 use Rattle.vortex_compute.proofs.Failures.{none_from_some, passes_on, fits_masked, masked_within, masked_at, fails_right, bit_some, before_fails, clash, all_failures}
 use Rattle.std.specs.List.{FoldsTo, zip}
@@ -136,6 +136,7 @@ tried_none step first back mask old = record {
   long = refl;
 }
 
+-- a group's answers are as many as its lanes
 group_answers : {F X W : Type 0} (step : F → X → Option W → F → Type 0) (first last : F) (back : Option W → X) (start count word : ℕ) (old new : List X) → start + count ≤ length old → (w : TriedInPlace step first back start count old new last word) → length w.lanes.answers ≡ count
 group_answers step first last back start count word old new inside w = w.lanes.each.long ∙ omega (arith, length-take count (drop start old), length-drop start old, inside)
 
@@ -189,6 +190,7 @@ tried_whole step first last reads_back d n mask old new all h = record {
   written = sym (take_all n new (omega (arith, h.long, all))) ∙ h.written;
 }
 
+-- calls whose answers are values, as calls that give those values
 given_calls : {F X W : Type 0} (step : F → X → Option W → F → Type 0) (d : W) (first last : F) (lanes : List X) (answers : List (Option W)) → length answers ≡ length lanes → FoldsTo (λ f call g. step f call.0 call.1 g) first (zip lanes answers) last → ((i : ℕ) → i < length lanes → is_none (get_or answers i None) ≡ false) → FoldsTo (λ f call g. step f call.0 (Some call.1) g) first (zip lanes (map (λ o. unwrap_or o d) answers)) last
 given_calls step d first last [] [] e calls h = calls
 given_calls step d first last [] (o ∷ os) e calls h = absurd (omega (arith, e))

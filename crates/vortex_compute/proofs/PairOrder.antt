@@ -1,5 +1,5 @@
-use Rattle.std.proofs.Common.{ℕ, ◌^◌, ◌<◌, ◌≡◌, Bool, not, ◌&&◌, ◌||◌, eqb, List, length, get_or, arith, sym, ap, ◌∙◌}
-use Rattle.std.specs.Prelude.{ℤ, int_lt, int_le, nat_lt, nat_le, nat_eq}
+use Rattle.std.proofs.Common.{ℕ, ◌^◌, ◌<◌, ◌≡◌, Bool, not, ◌&&◌, ◌||◌, List, length, get_or, arith, ap, ◌∙◌}
+use Rattle.std.specs.Prelude.{ℤ, int_lt, nat_lt, nat_le, nat_eq}
 use Rattle.std.specs.Ordering.{int_eq}
 use Rattle.std.specs.List.{All, zip}
 use Rattle.std.proofs.lemmas.Int.{ints}

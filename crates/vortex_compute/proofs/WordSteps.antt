@@ -1,4 +1,4 @@
-use Rattle.std.proofs.Common.{ℕ, suc, ◌+◌, ◌*◌, ◌/◌, ◌%◌, ◌^◌, ◌<◌, ◌≤◌, ◌≡◌, ◌≢◌, Bool, true, false, cond, List, [], ◌∷◌, ◌++◌, length, get_or, take, drop, set, map, refl, sym, ap, ◌∙◌, arith, length-take, length-drop, length-append, append_assoc, append-nil, drop-cons, ⊎_elim}
+use Rattle.std.proofs.Common.{ℕ, suc, ◌+◌, ◌*◌, ◌%◌, ◌^◌, ◌<◌, ◌≤◌, ◌≡◌, Bool, true, false, cond, List, [], ◌∷◌, ◌++◌, length, get_or, take, drop, set, map, refl, sym, ap, ◌∙◌, arith, length-take, length-drop, length-append, append_assoc, append-nil, drop-cons}
 use Rattle.std.specs.Int.RustNames.{bit_or}
 use Rattle.std.specs.List.{AllZip, All}
 use Rattle.std.specs.Simd.Lanes.{mask_l}
@@ -16,19 +16,23 @@ use Rattle.vortex_compute.specs.Answers.{MapsBits}
 use Rattle.vortex_compute.specs.Groups.{PackedGroup}
 use Rattle.vortex_compute.proofs.MapSteps.{take-add, AllZip-append}
 
+-- one more power of two
 pow-suc_two : (n : ℕ) → 2 ^ suc n ≡ 2 * 2 ^ n
 pow-suc_two n = grind arith
 
+-- one more bit at the end of a word
 pub mask_l-push : (ms : List Bool) (b : Bool) → mask_l (ms ++ b ∷ []) ≡ cond b 1 0 * 2 ^ length ms + mask_l ms
 mask_l-push [] true = refl
 mask_l-push [] false = refl
 mask_l-push (m ∷ ms) true = let h = mask_l-push ms true in rw pow-suc_two (omega (arith, h))
 mask_l-push (m ∷ ms) false = let h = mask_l-push ms false in omega (arith, h)
 
+-- a truth as a byte
 byte_is : (b : Bool) → bool_byte b ≡ cond b 1 0
 byte_is true = refl
 byte_is false = refl
 
+-- a truth as a number has one bit
 bit_word : (b : Bool) → cond b 1 0 < 2 ^ 1
 bit_word true = omega arith
 bit_word false = omega arith
@@ -91,6 +95,7 @@ bits_of-written P lanes n old new long room h =
     ∙ ap (λ k. bits_of k (words_of h.answers)) (sym all)
     ∙ bits_of-words_of h.answers
 
+-- answers that are a function of their lanes
 function_answers : {X : Type 0} (P : X → Bool → Type 0) (Q : X → Type 0) (t : X → Bool) (lanes : List X) (answers : List Bool) → ((x : X) (b : Bool) → Q x → P x b → b ≡ t x) → All Q lanes → AllZip P lanes answers → answers ≡ map t lanes
 function_answers P Q t [] [] says all each = refl
 function_answers P Q t [] (b ∷ bs) says all each = absurd each

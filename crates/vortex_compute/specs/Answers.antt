@@ -1,4 +1,4 @@
-use Rattle.std.specs.Prelude.{ℕ, ◌+◌, ◌*◌, ◌/◌, ◌<◌, ◌≡◌, Bool, true, false, ◌&&◌, cond, List, ◌++◌, length, get_or, take, drop, map, min, replicate, Option, None, is_none, unwrap_or}
+use Rattle.std.specs.Prelude.{ℕ, ◌+◌, ◌*◌, ◌/◌, ◌<◌, ◌≡◌, Bool, true, false, ◌&&◌, cond, List, length, get_or, take, map, min, replicate, Option, None, is_none, unwrap_or}
 use Rattle.std.specs.List.{AllZip, fold}
 use Rattle.std.specs.Simd.Lanes.{zip2}
 use Rattle.vortex_buffer.specs.Bits.{packed_over}

@@ -1,4 +1,4 @@
-use Rattle.std.specs.Prelude.{ℕ, ◌+◌, ◌-◌, ◌<◌, ◌≡◌, Bool, false, cond, List, ◌++◌, length, take, drop, map, Option, is_none, unwrap_or}
+use Rattle.std.specs.Prelude.{ℕ, ◌+◌, ◌<◌, ◌≡◌, Bool, false, cond, List, ◌++◌, length, take, drop, map, Option, is_none, unwrap_or}
 use Rattle.std.specs.List.{AllZip}
 use Rattle.vortex_compute.specs.Answers.{fails_at}
 use Rattle.std.specs.Simd.Lanes.{mask_l, zip2}

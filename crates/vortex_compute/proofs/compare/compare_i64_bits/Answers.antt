@@ -1,4 +1,4 @@
-use Rattle.std.proofs.Common.{rules, sym, ap, ◌∙◌, ◌≡◌, pos, map}
+use Rattle.std.proofs.Common.{rules, sym, ap, ◌∙◌, ◌≡◌, map}
 use Rattle.vortex_buffer.specs.Bits.{packed_over}
 use Rattle.std.specs.Bool.{⊤}
 use Rattle.vortex_compute.specs.Compare.{compares}

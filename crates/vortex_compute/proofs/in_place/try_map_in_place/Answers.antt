@@ -1,4 +1,4 @@
-use Rattle.std.proofs.Common.{arith, ap, sym, ◌∙◌, ◌≡◌, ◌+◌, ◌*◌, ◌/◌, ◌%◌, length, unwrap_or}
+use Rattle.std.proofs.Common.{arith, ◌≡◌, ◌+◌, ◌*◌, ◌/◌, ◌%◌, length, unwrap_or}
 use Rattle.vortex_compute.specs.Answers.{all_valid}
 use Rattle.vortex_compute.proofs.InPlaceSteps.{tried_none, tried_group_more_all, tried_fails_all, tried_whole, in_place_given}
 use Rattle.vortex_compute.proofs.in_place.try_map_in_place.Goals as goal

@@ -1,5 +1,4 @@
 use Rattle.std.proofs.Common.{◌*◌, unwrap_or}
-use Rattle.vortex_compute.specs.Answers.{all_valid}
 use Rattle.vortex_compute.specs.Groups.{TriedSoFar}
 use Rattle.vortex_compute.proofs.in_place.try_map_masked_in_place.Given as goal
 

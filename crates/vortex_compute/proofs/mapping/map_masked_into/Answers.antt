@@ -1,4 +1,4 @@
-use Rattle.std.proofs.Common.{arith, ◌≡◌, ◌*◌, ◌+◌, ◌/◌, ◌%◌, take, length}
+use Rattle.std.proofs.Common.{arith, ◌≡◌, ◌*◌, ◌+◌, ◌/◌, ◌%◌, take}
 use Rattle.std.proofs.lemmas.List.{take_all}
 use Rattle.vortex_compute.proofs.MapSteps.{valid_group_more}
 use Rattle.vortex_compute.proofs.mapping.map_masked_into.Goals as goal

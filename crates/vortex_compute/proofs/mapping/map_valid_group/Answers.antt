@@ -1,7 +1,4 @@
-use Rattle.std.proofs.Common.{arith, rules, ◌<◌, ◌≡◌, ◌+◌, ◌*◌, ◌/◌, length, sym, ap, ◌∙◌, cond, eqb, get_or, false}
-use Rattle.std.specs.Int.{bit_at}
-use Rattle.vortex_buffer.specs.Bits.{word_of}
-use Rattle.vortex_buffer.proofs.Bits.{bit_at-word_of}
+use Rattle.std.proofs.Common.{arith, rules, ◌<◌, ◌≡◌, ◌+◌, ◌*◌, ◌/◌, length, ap, ◌∙◌, cond}
 use Rattle.vortex_compute.proofs.MapSteps.{valid_none, valid_more, set_bit}
 use Rattle.vortex_compute.proofs.mapping.map_valid_group.Goals as goal
 

@@ -1,7 +1,5 @@
-use Rattle.std.proofs.Common.{arith, ◌≡◌, ◌+◌, ◌*◌, ◌/◌, ◌%◌, ◌-◌, length, take, drop, refl, ap, sym, ◌∙◌, []}
-use Rattle.std.proofs.lemmas.List.{take_all, length-take, length-drop}
-use Rattle.std.proofs.lemmas.Slice.Zip.{AllZip-long}
-use Rattle.vortex_compute.specs.Answers.{all_valid, FailsFirst}
+use Rattle.std.proofs.Common.{arith, ◌≡◌, ◌+◌, ◌*◌, ◌/◌, ◌%◌, take, refl, []}
+use Rattle.std.proofs.lemmas.List.{take_all}
 use Rattle.vortex_compute.proofs.Failures.{unmasked_more, unmasked_fails, all_given}
 use Rattle.vortex_compute.proofs.refusing.try_map_into.Goals as goal
 

@@ -1,4 +1,4 @@
-use Rattle.std.proofs.Common.{arith, sym, ◌∙◌, ap, ◌<◌, length}
+use Rattle.std.proofs.Common.{arith, ◌<◌, length}
 use Rattle.std.proofs.lemmas.Slice.Zip.{length-zip}
 use Rattle.vortex_compute.proofs.Pairs.{pair_read}
 use Rattle.vortex_compute.proofs.source.LaneZipIndexedSource.get.Goals as goal

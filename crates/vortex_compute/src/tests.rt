@@ -2,9 +2,9 @@ ghost use Rattle.std.specs.Prelude.{◌≡◌, ◌<◌, ◌+◌, ◌/◌, ◌^�
 
 use crate::{
     CompareOperator, IndexedSource, LaneZip, Lanes, LanesMut, ReinterpretSink, Repeat,
-    collect_bits, collect_zip_bits, compare_i64_bits, compare_u64_bits, compare_words_bits,
-    map_bits_into, map_checked_into, map_into, map_into_in_place, map_masked_into,
-    try_map_in_place, try_map_into, try_map_masked_in_place, try_map_masked_into,
+    bit_buffer_from_words, collect_bits, collect_zip_bits, compare_i64_bits, compare_u64_bits,
+    compare_words_bits, map_bits_into, map_checked_into, map_into, map_into_in_place,
+    map_masked_into, try_map_in_place, try_map_into, try_map_masked_in_place, try_map_masked_into,
 };
 use std::alloc::{AllocError, Global};
 use std::cell::Cell;

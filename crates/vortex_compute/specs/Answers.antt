@@ -44,7 +44,7 @@ pub record MapsLanes {X R : Type 0} (P : X → Option R → Type 0) (d : R) (lan
   pub passes : (i : ℕ) → i < length lanes → fails_at mask answers i ≡ false
   pub written : new ≡ map (λ answer. unwrap_or answer d) answers
 
--- lane i is the first that failed; each lane to the end of its group was asked once, and no lane after
+-- lane i is the first that failed; there is one answer for each lane up to the end of its group of 64, and none for later lanes
 pub record FailsFirst {X R : Type 0} (P : X → Option R → Type 0) (lanes : List X) (mask : List Bool) (i : ℕ) : Type 0 where
   pub answers : List (Option R)
   pub each : AllZip P (take (length answers) lanes) answers

@@ -25,7 +25,7 @@ pub record TriesInOrder {F X W : Type 0} (step : F → X → Option W → F → 
   pub passes : (i : ℕ) → i < length lanes → fails_at mask answers i ≡ false
   pub written : new ≡ map (λ answer. reads_back (unwrap_or answer d)) answers
 
--- lane i is the first that failed; each lane to the end of its group was asked once, and no lane after
+-- lane i is the first that failed; there is one answer for each lane up to the end of its group of 64, and none for later lanes
 pub record FailsInOrder {F X W : Type 0} (step : F → X → Option W → F → Type 0) (first : F) (lanes : List X) (mask : List Bool) (i : ℕ) : Type 0 where
   pub answers : List (Option W)
   pub last : F

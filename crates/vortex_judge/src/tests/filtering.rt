@@ -252,11 +252,13 @@ fn is_first_unknown(alloc: Global, request: &ScanRequest, want: &str) -> Result<
     }
 }
 
+// Whether the first unknown name of a filter over the column `a` is this one.
 fn names_first(alloc: Global, filter: Filter, want: &str) -> Result<bool, AllocError> {
     let request = filtered(filter);
     is_first_unknown(alloc, &request, want)
 }
 
+// Whether two columns are above 1.
 fn both(alloc: Global, left: &str, right: &str) -> Result<Filter, Fail> {
     let left = Boxed::new(alloc, above(alloc, left, U64, 1)?)?;
     let right = Boxed::new(alloc, above(alloc, right, U64, 1)?)?;
@@ -266,15 +268,19 @@ fn both(alloc: Global, left: &str, right: &str) -> Result<Filter, Fail> {
 #[test]
 fn unknown_names_in_order(rt: HostRuntime) -> Result<(), Fail> {
     let alloc = rt.alloc();
-    for (left, right, want) in [("x", "y", "x"), ("a", "y", "y"), ("x", "a", "x")] {
-        let request = filtered(both(alloc, left, right)?);
-        assert!(rt;
-            is_first_unknown(alloc, &request, want)?,
+    for (left, right, want, holds) in [
+        ("x", "y", "x", true),
+        ("a", "y", "y", true),
+        ("x", "a", "x", true),
+        ("a", "a", "a", false),
+    ] {
+        let filter = both(alloc, left, right)?;
+        assert_eq!(rt;
+            names_first(alloc, filter, want)?,
+            holds,
             "{left} and {right}"
         );
     }
-    let known = filtered(both(alloc, "a", "a")?);
-    assert!(rt; !is_first_unknown(alloc, &known, "a")?, "no unknown name");
     Ok(())
 }
 
@@ -285,12 +291,19 @@ fn two_names(alloc: Global) -> Result<Names, AllocError> {
     Ok(Names::from_vec(names))
 }
 
+// A request for these names, with a filter and a limit of no rows.
+fn projected(names: Names, filter: Filter) -> ScanRequest {
+    let mut request = filtered(filter);
+    request.projection = Projection::Columns(names);
+    request.limit = Some(0);
+    request
+}
+
 #[test]
 fn unknown_names_of_projections_come_first(rt: HostRuntime) -> Result<(), Fail> {
     let alloc = rt.alloc();
-    let mut request = filtered(both(alloc, "x", "y")?);
-    request.projection = Projection::Columns(two_names(alloc)?);
-    request.limit = Some(0);
+    let names = two_names(alloc)?;
+    let request = projected(names, both(alloc, "x", "y")?);
     assert!(rt; is_first_unknown(alloc, &request, "zz")?);
     Ok(())
 }

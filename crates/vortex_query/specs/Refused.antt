@@ -50,10 +50,10 @@ RefusesRequest columns request OutOfMemory = ⊤
 RefusesRequest columns request UnknownColumn = IsSome (first_unknown columns request)
 RefusesRequest columns request _ = ⊥
 
--- a text spells this request
+-- a request that some text spells
 abbrev pub IsSpelledRequest : ScanRequest → Type 0
 IsSpelledRequest request = (text : List ℕ) × (requested text ≡ Some request)
 
--- a text spells this table
+-- a table that some text spells
 abbrev pub IsSpelledTable : SpelledTable → Type 0
 IsSpelledTable table = (bytes : List ℕ) × (spelled bytes ≡ Some table)

@@ -15,7 +15,9 @@ mod types;
 pub use arrays::{Array, LengthMismatch, PrimitiveArray, PrimitiveBuffer, Validity};
 pub use batch::RecordBatch;
 pub use column::ColumnDesc;
-pub use filter::{BetweenOptions, CompareOperator, Filter, Operand, StrictComparison};
+pub use filter::{BetweenOptions, Filter, Operand, StrictComparison};
 pub use names::{Bytes, Name, Text};
 pub use scalar::{Scalar, Value, WrongType};
 pub use types::{BadPrecision, DType, DecimalDType, Nullability, PType};
+/// How two values are compared, which is also what the lane kernels compare by.
+pub use vortex_compute::CompareOperator;

@@ -152,14 +152,21 @@ fn is_cheap(alloc: Global, scale: i8, number: i128) -> Result<Filter, Fail> {
     ))
 }
 
+// The truth of a filter where the column `p` has this number of hundredths.
+fn truth_at_price(alloc: Global, filter: &Filter, number: i128) -> Result<Option<bool>, Fail> {
+    let kind = price(2)?;
+    let columns = vec![in alloc; desc(alloc, "p", kind)?]?;
+    let row = vec![in alloc; Some(Value::Decimal(number))]?;
+    Ok(truth_of(&columns, &row, filter))
+}
+
 #[test]
 fn decimals_are_compared_by_their_numbers(rt: HostRuntime) -> Result<(), Fail> {
     let alloc = rt.alloc();
-    let columns = vec![in alloc; desc(alloc, "p", price(2)?)?]?;
     let filter = is_cheap(alloc, 2, -7)?;
-    for (number, want) in [(150, false), (-7, true), (-8, true)] {
-        let row = vec![in alloc; Some(Value::Decimal(number))]?;
-        assert_eq!(rt; truth_of(&columns, &row, &filter), Some(want), "{number}");
+    for (number, want) in [(150, Some(false)), (-7, Some(true)), (-8, Some(true))] {
+        let truth = truth_at_price(alloc, &filter, number)?;
+        assert_eq!(rt; truth, want, "{number}");
     }
     Ok(())
 }

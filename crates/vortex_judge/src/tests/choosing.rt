@@ -45,10 +45,10 @@ fn range_of(bounds: Option<(u64, u64)>) -> Option<Range<u64>> {
     }
 }
 
-// The numbers that a filter keeps of 3, null and 1.
-fn kept(alloc: Global, filter: Filter) -> Result<Vec<i128>, AllocError> {
-    let request = filtered(filter);
-    kept_by(alloc, &request)
+// The numbers that a filter keeps of 3, null and 1. It comes as it was made, so that no test holds a filter.
+fn kept(alloc: Global, filter: Result<Filter, Fail>) -> Result<Vec<i128>, Fail> {
+    let request = filtered(filter?);
+    Ok(kept_by(alloc, &request)?)
 }
 
 fn kept_by(alloc: Global, request: &ScanRequest) -> Result<Vec<i128>, AllocError> {
@@ -69,13 +69,23 @@ fn is_big(alloc: Global) -> Result<Filter, Fail> {
     above(alloc, "qty", I32_OR_NULL, 2)
 }
 
-fn is_null(alloc: Global) -> Result<Filter, AllocError> {
+fn is_not_big(alloc: Global) -> Result<Filter, Fail> {
+    let big = is_big(alloc)?;
+    Ok(not(alloc, big)?)
+}
+
+fn is_null(alloc: Global) -> Result<Filter, Fail> {
     Ok(Filter::IsNull(column(alloc, "qty")?))
 }
 
 fn equals_null(alloc: Global) -> Result<Filter, Fail> {
     let null = constant(I32_OR_NULL, None)?;
     Ok(Filter::Compare(CompareOperator::Eq, column(alloc, "qty")?, null))
+}
+
+fn differs_from_null(alloc: Global) -> Result<Filter, Fail> {
+    let same = equals_null(alloc)?;
+    Ok(not(alloc, same)?)
 }
 
 fn both(alloc: Global, left: Filter, right: Filter) -> Result<Filter, AllocError> {
@@ -88,14 +98,26 @@ fn either(alloc: Global, left: Filter, right: Filter) -> Result<Filter, AllocErr
     Ok(Filter::Or(left, Boxed::new(alloc, right)?))
 }
 
+fn is_big_or_null(alloc: Global) -> Result<Filter, Fail> {
+    let big = is_big(alloc)?;
+    let null = is_null(alloc)?;
+    Ok(either(alloc, big, null)?)
+}
+
+fn is_big_and_null(alloc: Global) -> Result<Filter, Fail> {
+    let big = is_big(alloc)?;
+    let null = is_null(alloc)?;
+    Ok(both(alloc, big, null)?)
+}
+
 #[test]
 fn filters_with_nulls(rt: HostRuntime) -> Result<(), Fail> {
     let alloc = rt.alloc();
-    let big = kept(alloc, is_big(alloc)?)?;
+    let big = kept(alloc, is_big(alloc))?;
     assert_eq!(rt; big.as_slice(), [3].as_slice(), "above 2");
-    let not_big = kept(alloc, not(alloc, is_big(alloc)?)?)?;
+    let not_big = kept(alloc, is_not_big(alloc))?;
     assert_eq!(rt; not_big.as_slice(), [1].as_slice(), "not above 2");
-    let null = kept(alloc, is_null(alloc)?)?;
+    let null = kept(alloc, is_null(alloc))?;
     assert_eq!(rt; null.as_slice(), [NULL].as_slice(), "null");
     Ok(())
 }
@@ -103,9 +125,9 @@ fn filters_with_nulls(rt: HostRuntime) -> Result<(), Fail> {
 #[test]
 fn comparisons_with_null_keep_no_row(rt: HostRuntime) -> Result<(), Fail> {
     let alloc = rt.alloc();
-    let same = kept(alloc, equals_null(alloc)?)?;
+    let same = kept(alloc, equals_null(alloc))?;
     assert_eq!(rt; same.as_slice(), [].as_slice(), "equal to null");
-    let other = kept(alloc, not(alloc, equals_null(alloc)?)?)?;
+    let other = kept(alloc, differs_from_null(alloc))?;
     assert_eq!(rt; other.as_slice(), [].as_slice(), "not equal to null");
     Ok(())
 }
@@ -113,9 +135,9 @@ fn comparisons_with_null_keep_no_row(rt: HostRuntime) -> Result<(), Fail> {
 #[test]
 fn filters_joined_over_nulls(rt: HostRuntime) -> Result<(), Fail> {
     let alloc = rt.alloc();
-    let any = kept(alloc, either(alloc, is_big(alloc)?, is_null(alloc)?)?)?;
+    let any = kept(alloc, is_big_or_null(alloc))?;
     assert_eq!(rt; any.as_slice(), [3, NULL].as_slice(), "above 2 or null");
-    let all = kept(alloc, both(alloc, is_big(alloc)?, is_null(alloc)?)?)?;
+    let all = kept(alloc, is_big_and_null(alloc))?;
     assert_eq!(rt; all.as_slice(), [].as_slice(), "above 2 and null");
     Ok(())
 }

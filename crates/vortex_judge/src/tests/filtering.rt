@@ -119,6 +119,17 @@ fn truth_at(alloc: Global, filter: &Filter, number: i128) -> Result<Option<bool>
     Ok(truth_of(&columns, &row, filter))
 }
 
+// The truth of a number's lying between two others.
+fn truth_between(
+    alloc: Global,
+    lower: i128,
+    number: i128,
+    upper: i128,
+) -> Result<Option<bool>, Fail> {
+    let filter = between(alloc, lower, upper)?;
+    Ok(truth_at(alloc, &filter, number)?)
+}
+
 #[test]
 fn bounds_of_between(rt: HostRuntime) -> Result<(), Fail> {
     let alloc = rt.alloc();
@@ -132,8 +143,7 @@ fn bounds_of_between(rt: HostRuntime) -> Result<(), Fail> {
         (1, 2, NULL, None),
         (3, 1, NULL, None),
     ] {
-        let filter = between(alloc, lower, upper)?;
-        let truth = truth_at(alloc, &filter, number)?;
+        let truth = truth_between(alloc, lower, number, upper)?;
         assert_eq!(rt; truth, want, "{number} from {lower} to {upper}");
     }
     Ok(())

@@ -57,6 +57,14 @@ impl RecordBatch {
         self.columns.len()
     }
 
+    /// The columns, each of that many rows.
+    pub fn columns(&self) -> &[Array]
+        ensures value { result.now ≡ self.now.columns }
+        ensures rows { All (HasRows self.now.rows) self.now.columns }
+    {
+        self.columns.as_slice()
+    }
+
     /// The column at a place.
     pub fn column(&self, i: usize) -> &Array
         requires { i < length self.now.columns }

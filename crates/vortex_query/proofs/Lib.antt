@@ -1,0 +1,9 @@
+pub mod Answering
+pub mod Cut
+pub mod Digits
+pub mod Forms
+pub mod Gives
+pub mod Lines
+pub mod Only
+pub mod Records
+pub mod Rows

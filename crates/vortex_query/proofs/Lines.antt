@@ -1,0 +1,112 @@
+-- The lines of numbers.
+use Rattle.std.proofs.Common.{◌≡◌, ◌<◌, ◌+◌, ◌++◌, ◌∙◌, ap, sym, refl, arith, add-one, ℕ, zero, suc, pos, List, [], ◌∷◌, length, map, take, get_or, Some, append_assoc}
+use Rattle.std.specs.Prelude.{decimal, flat_map, All, Option}
+use Rattle.std.specs.List.{range_with_len}
+use Rattle.std.proofs.lemmas.List.{append-nil, flat_map_more, map_more}
+use Rattle.std.proofs.lemmas.Grind.{flat_map-append}
+use Rattle.csv.specs.Writing.{default_writer, row_text}
+use Rattle.vortex_array.specs.declared.types.DType.{DType}
+use Rattle.vortex_array.specs.declared.scalar.Value.{Value}
+use Rattle.vortex_array.specs.declared.scalar.Value.TheVariants.{Int}
+use Rattle.vortex_array.specs.declared.column.ColumnDesc.{ColumnDesc}
+use Rattle.vortex_array.specs.declared.arrays.Array.{Array}
+use Rattle.vortex_array.specs.declared.arrays.Array.TheVariants.{Primitive}
+use Rattle.vortex_array.specs.declared.arrays.PrimitiveBuffer.{PrimitiveBuffer}
+use Rattle.vortex_array.specs.declared.arrays.PrimitiveBuffer.TheVariants.{U64}
+use Rattle.vortex_array.specs.declared.arrays.Validity.{Validity}
+use Rattle.vortex_array.specs.declared.arrays.Validity.TheVariants.{NonNullable, AllValid, AllInvalid}
+use Rattle.vortex_array.specs.Batch.{HasRows}
+use Rattle.vortex_array.specs.Cells.{Row}
+use Rattle.vortex_array.specs.ColumnOf.{column_of, primitive_column}
+use Rattle.vortex_table.specs.declared.scan.request.Projection.{Projection}
+use Rattle.vortex_table.specs.declared.scan.request.Projection.TheVariants as projection
+use Rattle.vortex_table.specs.Built.{u64_type}
+use Rattle.vortex_table.specs.Given.{given}
+use Rattle.vortex_table.specs.Table.{row_at}
+use Rattle.vortex_table.specs.declared.scan.batch.Batch.{Batch}
+use Rattle.vortex_table.specs.Turn.{batch_rows}
+use Rattle.vortex_query.specs.Shown.{IsOneU64Column, number_row, numbers_in, numbers_under, rows_of}
+use Rattle.vortex_query.specs.Text.{header_cell, line_text, text}
+
+-- the line of a number under the one column
+pub number_line : (columns : List ColumnDesc) (n : ℕ) → IsOneU64Column columns → line_text columns (number_row n) ≡ row_text default_writer (decimal n ∷ [])
+number_line [] n e = absurd (cc e)
+number_line (c ∷ []) n e = refl
+number_line (c ∷ d ∷ rest) n e = absurd (cc e)
+
+-- the lines of one more number
+pub more_lines : (columns : List ColumnDesc) (written : List ℕ) (numbers : List ℕ) (i : ℕ) → IsOneU64Column columns → i < length numbers
+    → (written ++ flat_map (line_text columns) (map number_row (take i numbers))) ++ row_text default_writer (decimal (get_or numbers i 0) ∷ [])
+    ≡ written ++ flat_map (line_text columns) (map number_row (take (i + 1) numbers))
+more_lines columns written numbers i one h =
+    let before : List Row = map number_row (take i numbers) in
+    let n : ℕ = get_or numbers i 0 in
+    ap (λ line. (written ++ flat_map (line_text columns) before) ++ line) (sym (number_line columns n one))
+    ∙ flat_map_more (line_text columns) written before (number_row n)
+    ∙ ap (λ rows. written ++ flat_map (line_text columns) rows) (sym (map_more number_row numbers i 0 h))
+
+-- the text under one column that is shown: its header and the lines
+pub one_header : (columns : List ColumnDesc) (p : Projection) (d : ColumnDesc) (rows : List Row) → IsOneU64Column columns → p ≡ projection.All
+    → text columns p rows ≡ row_text default_writer (header_cell (get_or columns 0 d) ∷ []) ++ flat_map (line_text columns) rows
+one_header [] p d rows e all = absurd (cc e)
+one_header (c ∷ []) p d rows e all = rw all refl
+one_header (c ∷ b ∷ rest) p d rows e all = absurd (cc e)
+
+-- the one column is of that type
+pub first_is_u64 : (columns : List ColumnDesc) (d : ColumnDesc) → IsOneU64Column columns → (get_or columns 0 d).dtype ≡ u64_type
+first_is_u64 [] d e = absurd (cc e)
+first_is_u64 (c ∷ []) d e = cc e
+first_is_u64 (c ∷ b ∷ rest) d e = absurd (cc e)
+
+-- more rows are more lines
+pub more_rows : (columns : List ColumnDesc) (p : Projection) (d : ColumnDesc) (rows more : List Row) → IsOneU64Column columns → p ≡ projection.All
+    → text columns p (rows ++ more) ≡ text columns p rows ++ flat_map (line_text columns) more
+more_rows columns p d rows more e all =
+    let header : List ℕ = row_text default_writer (header_cell (get_or columns 0 d) ∷ []) in
+    one_header columns p d (rows ++ more) e all
+    ∙ ap (λ lines. header ++ lines) (flat_map-append (line_text columns) rows more)
+    ∙ sym (append_assoc header (flat_map (line_text columns) rows) (flat_map (line_text columns) more))
+    ∙ ap (λ t. t ++ flat_map (line_text columns) more) (sym (one_header columns p d rows e all))
+
+-- a function of the number before, over numbers that begin one later
+shifted : {Y : Type 0} (f g : ℕ → Y) → ((i : ℕ) → f (suc i) ≡ g i) → (n m : ℕ) → map f (range_with_len (n + 1) m) ≡ map g (range_with_len n m)
+shifted f g e n zero = refl
+shifted f g e n (suc m) = ap (λ y. y ∷ map f (range_with_len (n + 1 + 1) m)) (ap f (add-one n) ∙ e n) ∙ ap (λ r. g n ∷ r) (shifted f g e (n + 1) m)
+
+-- one column, read row by row
+one_column : (t : DType) (rows : List (Option Value)) → map (row_at (record { dtype = t; rows = rows } ∷ [])) (range_with_len 0 (length rows)) ≡ map (λ v. v ∷ []) rows
+one_column t [] = refl
+one_column t (v ∷ rows) =
+    ap (λ r. (v ∷ []) ∷ r) (shifted (row_at (record { dtype = t; rows = v ∷ rows } ∷ [])) (row_at (record { dtype = t; rows = rows } ∷ [])) (λ i. refl) 0 (length rows) ∙ one_column t rows)
+
+-- numbers as rows of one value
+numbers_as_rows : (numbers : List ℕ) → map number_row numbers ≡ map (λ v. v ∷ []) (map (λ v. Some v) (map (λ n. Int n) (map (λ x. pos x) numbers)))
+numbers_as_rows [] = refl
+numbers_as_rows (n ∷ numbers) = ap (λ r. number_row n ∷ r) (numbers_as_rows numbers)
+
+-- numbers without nulls, read row by row
+parts_rows : (rows : ℕ) (values : PrimitiveBuffer) (validity : Validity) → (primitive_column (record { values = values; validity = validity })).dtype ≡ u64_type → length (primitive_column (record { values = values; validity = validity })).rows ≡ rows
+    → map number_row (numbers_in values) ≡ map (row_at (primitive_column (record { values = values; validity = validity }) ∷ [])) (range_with_len 0 rows)
+parts_rows rows (U64 numbers) NonNullable e long =
+    rw (← long) (numbers_as_rows numbers ∙ sym (one_column u64_type (map (λ v. Some v) (map (λ n. Int n) (map (λ x. pos x) numbers)))))
+parts_rows rows (U64 numbers) AllValid e long = absurd (cc e)
+parts_rows rows (U64 numbers) AllInvalid e long = absurd (cc e)
+
+-- an array of them
+array_rows : (rows : ℕ) (a : Array) → (column_of a).dtype ≡ u64_type → HasRows rows a → map number_row (numbers_under a) ≡ map (row_at (column_of a ∷ [])) (range_with_len 0 rows)
+array_rows rows (Primitive a) e long = parts_rows rows a.values a.validity e long
+
+-- the one array of a batch, read row by row
+pub batch_numbers : (rows : ℕ) (arrays : List Array) (d : Array) → map (λ a. (column_of a).dtype) arrays ≡ u64_type ∷ [] → All (HasRows rows) arrays
+    → map number_row (numbers_under (get_or arrays 0 d)) ≡ map (row_at (map column_of arrays)) (range_with_len 0 rows)
+batch_numbers rows [] d e long = absurd (cc e)
+batch_numbers rows (a ∷ []) d e long = array_rows rows a (cc e) (long 0 a (omega arith))
+batch_numbers rows (a ∷ b ∷ rest) d e long = absurd (cc e)
+
+-- the rows of one more batch
+pub rows_more : (batches : List Batch) (i : ℕ) (b : Batch) → b ≡ get_or batches i b → i < length batches → rows_of (take (i + 1) batches) ≡ rows_of (take i batches) ++ batch_rows (given b)
+rows_more batches i b is h =
+    ap (flat_map batch_rows) (map_more given batches i b h)
+    ∙ flat_map-append batch_rows (map given (take i batches)) (given (get_or batches i b) ∷ [])
+    ∙ ap (λ rows. rows_of (take i batches) ++ rows) (append-nil (batch_rows (given (get_or batches i b))))
+    ∙ ap (λ x. rows_of (take i batches) ++ batch_rows (given x)) (sym is)

@@ -1,0 +1,25 @@
+use Rattle.std.proofs.Common.{◌≡◌, ◌∙◌, rules, true}
+use Rattle.std.specs.Result.{is_ok}
+use Rattle.vortex_table.specs.Given.{contents_of}
+use Rattle.vortex_query.specs.Numbered.{column_seen}
+use Rattle.vortex_query.proofs.Cut.{cleared_contents, spelled_parts}
+use Rattle.vortex_query.proofs.table_text.table_of.Goals as goal
+
+pub returns-in-Ok-clause-ok : goal.returns-in-Ok-clause-ok
+returns-in-Ok-clause-ok c =
+    let good : is_ok c.push.result ≡ true = search rules in
+    let items = rw (good, c.new-columns.ensures.items) at c.push.ensures.items in
+    let t = c.in-Ok.ensures in
+    let parts = c.in_ok-partitions.ensures in
+    let column = column_seen c.in_ok-name.field-0 in
+    let text = c.as_slice.ensures.value in
+    spelled_parts c.args.bytes.now column c.in-Ok.table.columns c.in-Ok.table.partitions (contents_of c.in-Ok.table.sources) c.in_ok-name.ensures.ok
+    (t.columns ∙ items)
+    (t.partitions ∙ rw (c.requires, text) at parts.partitions)
+    (cleared_contents c.in_ok-partitions.field-0.sources.items c.in-Ok.table.sources t.sources ∙ rw (c.requires, text) at parts.contents)
+
+pub returns-in-Ok-clause-fits : goal.returns-in-Ok-clause-fits
+returns-in-Ok-clause-fits c =
+    let t = c.in-Ok.ensures in
+    let parts = c.in_ok-partitions.ensures in
+    rw (t.partitions, cleared_contents c.in_ok-partitions.field-0.sources.items c.in-Ok.table.sources t.sources, parts.partitions, parts.contents) parts.fits

@@ -1,0 +1,116 @@
+// Batches in text.
+ghost use Rattle.std.specs.Prelude.{◌≡◌, ◌++◌, ◌∷◌, [], All, IfOk, OnOk, List, ℕ, Some, map, flat_map};
+ghost use Rattle.csv.specs.Writing.{default_writer, row_text};
+ghost use Rattle.vortex_array.specs.ColumnOf.{column_of};
+ghost use Rattle.vortex_query.specs.Shown.{Holds, IsOneU64Batch, IsOneU64Column, number_row, numbers_in, numbers_under, rows_of};
+ghost use Rattle.vortex_query.specs.Text.{header_cell as cell_text, line_text, text, type_text};
+ghost use Rattle.vortex_table.specs.Built.{u64_type};
+ghost use Rattle.vortex_table.specs.Given.{given};
+ghost use Rattle.vortex_table.specs.Turn.{batch_rows};
+ghost use Rattle.vortex_table.specs.declared.scan.request.Projection.TheVariants as projections;
+
+use csv::{Writer, WriterBuilder};
+use std::alloc::{AllocError, Global};
+use vortex_array::{Array, ColumnDesc, PrimitiveBuffer};
+use vortex_buffer::Buffer;
+use vortex_table::{Batch, Projection};
+
+// A writer that holds nothing yet.
+fn new_writer(alloc: Global) -> Writer<Vec<u8>>
+    ensures { Holds (λ v. Some v.items) result [] }
+{
+    WriterBuilder::new().from_writer(Vec::new(alloc))
+}
+
+// Writes one row.
+fn write_row(writer: &mut Writer<Vec<u8>>, fields: &[&[u8]]) -> Result<(), AllocError>
+    ensures { OnOk result ((written : List ℕ) → Holds (λ v. Some v.items) writer.old written
+        → Holds (λ v. Some v.items) writer.new (written ++ row_text default_writer (map (λ f. f.now) fields.now))) }
+{
+    // A vector takes all bytes, so only memory can be wanting.
+    let Ok(()) = writer.write_fields(fields) else {
+        return Err(AllocError);
+    };
+    Ok(())
+}
+
+// The bytes that were written.
+fn finish(writer: Writer<Vec<u8>>) -> Result<Vec<u8>, AllocError>
+    ensures { IfOk result (λ bytes. (written : List ℕ) → Holds (λ v. Some v.items) writer written → bytes.items ≡ written) }
+{
+    let Ok(bytes) = writer.into_inner() else {
+        return Err(AllocError);
+    };
+    Ok(bytes)
+}
+
+// What stands above a column of `u64` without nulls.
+fn header_cell(alloc: Global, column: &ColumnDesc) -> Result<Vec<u8>, AllocError>
+    requires { column.now.dtype ≡ u64_type }
+    ensures { IfOk result (λ cell. cell.items ≡ cell_text column.now) }
+{
+    let mut cell = Vec::from_slice(alloc, column.name.as_str().as_bytes())?;
+    cell.extend_from_slice(b":u64")?;
+    Ok(cell)
+}
+
+// The numbers of a buffer.
+fn buffer_numbers(values: &PrimitiveBuffer) -> &[u64]
+    ensures { result.now ≡ numbers_in values.now }
+{
+    match values {
+        PrimitiveBuffer::U64(values) => values.as_slice(),
+    }
+}
+
+// The numbers of an array.
+fn array_numbers(array: &Array) -> &[u64]
+    ensures { result.now ≡ numbers_under array.now }
+{
+    match array {
+        Array::Primitive(array) => buffer_numbers(array.values()),
+    }
+}
+
+// The numbers of a batch of one column.
+fn batch_numbers(batch: &Batch) -> &[u64]
+    requires { IsOneU64Batch batch.now }
+    ensures { map number_row result.now ≡ batch_rows (given batch.now) }
+{
+    array_numbers(&batch.array.columns()[0])
+}
+
+// Writes a row for each number under a column.
+fn write_numbers(writer: &mut Writer<Vec<u8>>, numbers: &[u64]) -> Result<(), AllocError>
+    ensures { OnOk result ((columns : List ColumnDesc) → IsOneU64Column columns → (written : List ℕ) → Holds (λ v. Some v.items) writer.old written
+        → Holds (λ v. Some v.items) writer.new (written ++ flat_map (line_text columns) (map number_row numbers.now))) }
+{
+    for number in numbers {
+        let mut digits = itoa::Buffer::new();
+        write_row(writer, &[digits.format(*number).as_bytes()])?;
+    }
+    Ok(())
+}
+
+/// The text of the batches' rows: a header, and a line for each row, as `csv` writes them with its default settings. Each batch
+/// has a column of the one column's type. Its bytes are written at once, so it takes memory for all of them.
+pub fn rows_text(
+    alloc: Global,
+    columns: &[ColumnDesc],
+    projection: &Projection,
+    batches: &[Batch],
+) -> Result<Buffer<u8>, AllocError>
+    requires columns { IsOneU64Column columns.now }
+    requires projection { projection.now ≡ projections.All }
+    requires batches { All IsOneU64Batch batches.now }
+    ensures { IfOk result (λ bytes. bytes ≡ text columns.now projection.now (rows_of batches.now)) }
+{
+    let _ = projection;
+    let mut writer = new_writer(alloc);
+    let cell = header_cell(alloc, &columns[0])?;
+    write_row(&mut writer, &[cell.as_slice()])?;
+    for batch in batches {
+        write_numbers(&mut writer, batch_numbers(batch))?;
+    }
+    Ok(Buffer::from_vec(finish(writer)?))
+}

@@ -1,0 +1,128 @@
+// Numbers cut into partitions and splits.
+ghost use Rattle.std.specs.Prelude.{◌≡◌, ◌*◌, ◌<◌, ◌∷◌, [], All, IfOk, length, map};
+ghost use Rattle.vortex_io.specs.Memory.{columns_of};
+ghost use Rattle.vortex_io.specs.declared.memory.Arrive.TheVariants.{OnWait};
+ghost use Rattle.vortex_query.specs.Spelled.{chunks_of, numbers_column, partition_of, piece as piece_of, pieces as pieces_of, split_of};
+ghost use Rattle.vortex_table.specs.ChunkOf.{chunk_column, content_of};
+ghost use Rattle.vortex_table.specs.Given.{contents_of};
+
+use std::alloc::{AllocError, Global};
+use vortex_array::{Array, DType, Nullability, PType, PrimitiveArray, PrimitiveBuffer, Validity};
+use vortex_buffer::{Buffer, Items};
+use vortex_io::{Arrive, MemorySource, Order};
+use vortex_table::{Chunk, ChunkDesc, PartitionDesc, SplitDesc};
+
+/// The type of the one column.
+pub const NUMBER_TYPE: DType = DType::Primitive(PType::U64, Nullability::NonNullable);
+
+// The piece at this place, of pieces of this size.
+fn piece(numbers: &[u64], size: usize, place: usize) -> &[u64]
+    requires { size * place < length numbers.now }
+    ensures { result.now ≡ piece_of size numbers.now place }
+{
+    let start = size * place;
+    let end = start + size.min(numbers.len() - start);
+    &numbers[start..end]
+}
+
+/// The pieces of this size, of which the last may be shorter.
+pub fn pieces(alloc: Global, numbers: &[u64], size: usize) -> Result<Vec<&[u64]>, AllocError>
+    requires { 0 < size }
+    ensures { IfOk result (λ parts. map (λ part. part.now) parts.items ≡ pieces_of size numbers.now) }
+{
+    let mut parts = Vec::new(alloc);
+    for place in 0..numbers.len().div_ceil(size) {
+        parts.push(piece(numbers, size, place))?;
+    }
+    Ok(parts)
+}
+
+// The split of a piece.
+fn split(alloc: Global, numbers: &[u64]) -> Result<SplitDesc, AllocError>
+    ensures { IfOk result (λ split. split ≡ split_of numbers.now) }
+{
+    let rows = numbers.len() as u64;
+    let mut chunks = Vec::new(alloc);
+    chunks.push(ChunkDesc {
+        rows,
+        dtype: NUMBER_TYPE,
+    })?;
+    Ok(SplitDesc {
+        rows,
+        chunks: Items::from_vec(chunks),
+    })
+}
+
+// The partition of these numbers.
+fn partition(alloc: Global, numbers: &[u64], size: usize) -> Result<PartitionDesc, AllocError>
+    requires { 0 < size }
+    ensures { IfOk result (λ partition. partition ≡ partition_of size numbers.now) }
+{
+    let parts = pieces(alloc, numbers, size)?;
+    let mut splits = Vec::new(alloc);
+    for part in &parts {
+        splits.push(split(alloc, part)?)?;
+    }
+    Ok(PartitionDesc {
+        splits: Items::from_vec(splits),
+    })
+}
+
+/// A partition of each part, in splits of this size.
+pub fn partitions(
+    alloc: Global,
+    parts: &[&[u64]],
+    size: usize,
+) -> Result<Vec<PartitionDesc>, AllocError>
+    requires { 0 < size }
+    ensures { IfOk result (λ partitions. partitions.items ≡ map (partition_of size) (map (λ part. part.now) parts.now)) }
+{
+    let mut partitions = Vec::new(alloc);
+    for part in parts {
+        partitions.push(partition(alloc, part, size)?)?;
+    }
+    Ok(partitions)
+}
+
+// The chunk of a piece, as the one column of a split.
+fn chunk(alloc: Global, numbers: &[u64]) -> Result<Vec<Chunk>, AllocError>
+    ensures { IfOk result (λ chunks. map chunk_column chunks.items ≡ numbers_column numbers.now ∷ []) }
+{
+    let values = PrimitiveBuffer::U64(Buffer::from_slice(alloc, numbers)?);
+    let array = match PrimitiveArray::try_new(values, Validity::NonNullable) {
+        Ok(array) => array,
+        Err(_) => unreachable!(),
+    };
+    let mut chunks = Vec::new(alloc);
+    chunks.push(Chunk::Plain(Array::Primitive(array)))?;
+    Ok(chunks)
+}
+
+// A source of the chunks of these numbers.
+fn source(alloc: Global, numbers: &[u64], size: usize) -> Result<MemorySource<Chunk>, AllocError>
+    requires { 0 < size }
+    ensures { IfOk result (λ source. content_of source.chunks ≡ chunks_of size numbers.now) }
+{
+    let parts = pieces(alloc, numbers, size)?;
+    let mut chunks = Vec::new(alloc);
+    for part in &parts {
+        chunks.push(chunk(alloc, part)?)?;
+    }
+    Ok(MemorySource::new(alloc, chunks, Arrive::OnWait(Order::First)))
+}
+
+/// A source for each part, with the chunks of its splits.
+pub fn sources(
+    alloc: Global,
+    parts: &[&[u64]],
+    size: usize,
+) -> Result<Vec<MemorySource<Chunk>>, AllocError>
+    requires { 0 < size }
+    ensures { IfOk result (λ sources. contents_of sources.items ≡ map (chunks_of size) (map (λ part. part.now) parts.now)) }
+{
+    let mut sources = Vec::new(alloc);
+    for part in parts {
+        sources.push(source(alloc, part, size)?)?;
+    }
+    Ok(sources)
+}

@@ -1,0 +1,5 @@
+pub mod Bits
+pub mod Places
+pub mod Counts
+pub mod Unset
+pub mod WordLaws

@@ -1,0 +1,54 @@
+use Rattle.std.proofs.Common.{arith, ◌≡◌, ◌+◌, ◌*◌, ◌/◌, ◌%◌, length, unwrap_or}
+use Rattle.vortex_compute.specs.Answers.{all_valid}
+use Rattle.vortex_compute.proofs.InPlaceSteps.{tried_none, tried_group_more_all, tried_fails_all, tried_whole, in_place_given}
+use Rattle.vortex_compute.proofs.in_place.try_map_in_place.Goals as goal
+
+pub loop-k-init : goal.loop-k-init
+loop-k-init g c = record {
+  lanes = tried_none _ c.args.f (λ answer. g.S.IndexedSink.reads_back (unwrap_or answer g.S.Write.LaneDefault.its_default)) (all_valid (g.S.IndexedSource.lanes c.args.values.now)) (g.S.IndexedSource.lanes c.args.values.now);
+  kept = g.met.S.IndexedSink.stays c.args.values.now;
+}
+
+pub returns-then-failed-ne0-clause-err : goal.returns-then-failed-ne0-clause-err
+returns-then-failed-ne0-clause-err g c =
+    let old = g.S.IndexedSource.lanes c.args.values.now in
+    let now = g.S.IndexedSource.lanes c.loop-k.values in
+    let new = g.S.IndexedSource.lanes c.try_group_in_place-failed.new.values in
+    tried_fails_all _ c.args.f c.loop-k.f c.try_group_in_place-failed.new.f (λ answer. g.S.IndexedSink.reads_back (unwrap_or answer g.S.Write.LaneDefault.its_default)) c.loop-k.k 64 c.try_group_in_place-failed.result old now new (omega arith) (omega (arith, c.len-len.ensures)) c.loop-k.invariant.lanes c.try_group_in_place-failed.ensures.lanes c.if-failed-ne0.true
+
+pub loop-k-preserved : goal.loop-k-preserved
+loop-k-preserved g c =
+    let old = g.S.IndexedSource.lanes c.args.values.now in
+    let now = g.S.IndexedSource.lanes c.loop-k.values in
+    let new = g.S.IndexedSource.lanes c.try_group_in_place-failed.new.values in
+    record {
+      lanes =
+          tried_group_more_all _ c.args.f c.loop-k.f c.try_group_in_place-failed.new.f (λ answer. g.S.IndexedSink.reads_back (unwrap_or answer g.S.Write.LaneDefault.its_default)) c.loop-k.k 64 (64 * (c.loop-k.k + 1)) c.try_group_in_place-failed.result old now new (omega arith) (omega arith) (omega (arith, c.len-len.ensures)) c.loop-k.invariant.lanes c.try_group_in_place-failed.ensures.lanes c.if-failed-ne0.false;
+      kept = g.met.S.IndexedSink.goes_on c.args.values.now c.loop-k.values c.try_group_in_place-failed.new.values c.loop-k.invariant.kept c.try_group_in_place-failed.ensures.kept;
+    }
+
+pub returns-then-rest-eq0-clause-ok : goal.returns-then-rest-eq0-clause-ok
+returns-then-rest-eq0-clause-ok g c =
+    let old = g.S.IndexedSource.lanes c.args.values.now in
+    let all : length old ≡ 64 * c.loop-k.k = omega (arith, c.len-len.ensures) in
+    in_place_given _ c.args.f g.S.IndexedSink.reads_back g.S.Write.LaneDefault.its_default old (g.S.IndexedSource.lanes c.loop-k.values) (tried_whole _ c.args.f c.loop-k.f g.S.IndexedSink.reads_back g.S.Write.LaneDefault.its_default (64 * c.loop-k.k) (all_valid (g.S.IndexedSource.lanes c.args.values.now)) old (g.S.IndexedSource.lanes c.loop-k.values) all c.loop-k.invariant.lanes)
+
+pub returns-then-failed-ne0-2-clause-err : goal.returns-then-failed-ne0-2-clause-err
+returns-then-failed-ne0-2-clause-err g c =
+    let old = g.S.IndexedSource.lanes c.args.values.now in
+    let now = g.S.IndexedSource.lanes c.loop-k.values in
+    let new = g.S.IndexedSource.lanes c.try_group_in_place-failed-2.new.values in
+    let len = c.len-len.result in
+    let k : c.loop-k.k ≡ len / 64 = omega arith in
+    tried_fails_all _ c.args.f c.loop-k.f c.try_group_in_place-failed-2.new.f (λ answer. g.S.IndexedSink.reads_back (unwrap_or answer g.S.Write.LaneDefault.its_default)) (len / 64) (len % 64) c.try_group_in_place-failed-2.result old now new (omega arith) (omega (arith, c.len-len.ensures)) (rw k at c.loop-k.invariant.lanes) c.try_group_in_place-failed-2.ensures.lanes c.if-failed-ne0-2.true
+
+pub returns-clause-ok : goal.returns-clause-ok
+returns-clause-ok g c =
+    let old = g.S.IndexedSource.lanes c.args.values.now in
+    let now = g.S.IndexedSource.lanes c.loop-k.values in
+    let new = g.S.IndexedSource.lanes c.try_group_in_place-failed-2.new.values in
+    let len = c.len-len.result in
+    let k : c.loop-k.k ≡ len / 64 = omega arith in
+    let all : length old ≡ len = omega (arith, c.len-len.ensures) in
+    in_place_given _ c.args.f g.S.IndexedSink.reads_back g.S.Write.LaneDefault.its_default old new (tried_whole _ c.args.f c.try_group_in_place-failed-2.new.f g.S.IndexedSink.reads_back g.S.Write.LaneDefault.its_default len (all_valid (g.S.IndexedSource.lanes c.args.values.now)) old new all
+    (tried_group_more_all _ c.args.f c.loop-k.f c.try_group_in_place-failed-2.new.f (λ answer. g.S.IndexedSink.reads_back (unwrap_or answer g.S.Write.LaneDefault.its_default)) (len / 64) (len % 64) len c.try_group_in_place-failed-2.result old now new (omega arith) (omega arith) (omega (arith, c.len-len.ensures)) (rw k at c.loop-k.invariant.lanes) c.try_group_in_place-failed-2.ensures.lanes c.if-failed-ne0-2.false))

@@ -1,0 +1,6 @@
+use Rattle.std.proofs.Common.{take, ◌*◌}
+use Rattle.vortex_compute.specs.Answers.{MapsLanes}
+use Rattle.vortex_compute.proofs.refusing.try_map_masked_into.Given as goal
+
+abbrev pub invariant-loop-k : goal.invariant-loop-k
+invariant-loop-k g l = MapsLanes (λ x b. goal.F-post g l.f x b) g.R.LaneDefault.its_default (take (64 * l.k) (g.S.IndexedSource.lanes l.values)) l.mask (take (64 * l.k) l.out)

@@ -9,7 +9,7 @@ use crate::packing::map_bits_into;
 use crate::source::{LaneZip, Lanes};
 
 /// How two values are compared.
-#[derive(Clone, Copy, PartialEq, Eq)]
+#[derive(Clone, Copy, Debug, PartialEq, Eq)]
 pub enum CompareOperator {
     /// The first equals the second.
     Eq,

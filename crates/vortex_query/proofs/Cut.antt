@@ -7,9 +7,9 @@ use Rattle.std.proofs.lemmas.Bool.Decides.{nat_tests}
 use Rattle.std.proofs.lemmas.List.{length-map}
 use mir.Val.{Fits}
 use mir.Syntax.{w64}
-use Rattle.vortex_array.specs.declared.scalar.Value.TheVariants.{Int}
-use Rattle.vortex_array.specs.declared.column.ColumnDesc.{ColumnDesc}
-use Rattle.vortex_array.specs.Row.{Column, fits_type}
+use Rattle.vortex_types.specs.declared.scalar.Value.TheVariants.{Int}
+use Rattle.vortex_types.specs.declared.column.ColumnDesc.{ColumnDesc}
+use Rattle.vortex_types.specs.Row.{Column, fits_type}
 use Rattle.vortex_io.specs.declared.memory.Arrive.{Arrive}
 use Rattle.vortex_io.specs.declared.memory.Arrive.TheVariants.{OnWait}
 use Rattle.vortex_io.specs.declared.memory.Order.TheVariants.{First}

@@ -2,17 +2,7 @@
 use crate::names::Name;
 use crate::scalar::Scalar;
 use sqlite_items::Boxed;
-
-/// How two values are compared.
-#[derive(Clone, Copy, Debug, PartialEq, Eq)]
-pub enum CompareOperator {
-    Eq,
-    NotEq,
-    Gt,
-    Gte,
-    Lt,
-    Lte,
-}
+use vortex_compute::CompareOperator;
 
 /// Whether a bound itself is left out.
 #[derive(Clone, Copy, Debug, PartialEq, Eq)]

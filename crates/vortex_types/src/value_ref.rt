@@ -1,0 +1,37 @@
+// Values that are lent.
+ghost use Rattle.std.specs.Prelude.{◌≡◌, IfOk};
+ghost use Rattle.vortex_types.specs.Seen.{value_seen};
+
+use crate::names::{Bytes, Text};
+use crate::scalar::Value;
+use std::alloc::{AllocError, Global};
+
+/// A value that is lent from where it is kept. A decimal's is its unscaled number.
+#[derive(Clone, Copy)]
+pub enum ValueRef<'a> {
+    /// A truth value.
+    Bool(bool),
+    /// A whole number.
+    Int(i128),
+    /// A decimal's unscaled number.
+    Decimal(i128),
+    /// A text.
+    Utf8(&'a str),
+    /// Bytes.
+    Binary(&'a [u8]),
+}
+
+impl ValueRef<'_> {
+    /// The value, with a copy of its text or bytes.
+    pub fn to_value(self, alloc: Global) -> Result<Value, AllocError>
+        ensures { IfOk result (λ v. v ≡ value_seen self.entry) }
+    {
+        match self {
+            ValueRef::Bool(b) => Ok(Value::Bool(b)),
+            ValueRef::Int(n) => Ok(Value::Int(n)),
+            ValueRef::Decimal(n) => Ok(Value::Decimal(n)),
+            ValueRef::Utf8(text) => Ok(Value::Utf8(Text::from_str(alloc, text)?)),
+            ValueRef::Binary(bytes) => Ok(Value::Binary(Bytes::from_slice(alloc, bytes)?)),
+        }
+    }
+}

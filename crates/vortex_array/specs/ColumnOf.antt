@@ -1,19 +1,19 @@
 -- The column that an array stands for.
 use Rattle.std.specs.Prelude.{ℕ, ℤ, pos, List, map, length, Option, Some, None}
-use Rattle.vortex_array.specs.declared.types.PType.{PType}
-use Rattle.vortex_array.specs.declared.types.PType.TheVariants as width
-use Rattle.vortex_array.specs.declared.types.Nullability.{Nullability}
-use Rattle.vortex_array.specs.declared.types.Nullability.TheVariants.{NonNullable as WithoutNulls, Nullable}
-use Rattle.vortex_array.specs.declared.types.DType.TheVariants as dtype
-use Rattle.vortex_array.specs.declared.scalar.Value.{Value}
-use Rattle.vortex_array.specs.declared.scalar.Value.TheVariants as value
+use Rattle.vortex_types.specs.declared.types.PType.{PType}
+use Rattle.vortex_types.specs.declared.types.PType.TheVariants as width
+use Rattle.vortex_types.specs.declared.types.Nullability.{Nullability}
+use Rattle.vortex_types.specs.declared.types.Nullability.TheVariants.{NonNullable as WithoutNulls, Nullable}
+use Rattle.vortex_types.specs.declared.types.DType.TheVariants as dtype
+use Rattle.vortex_types.specs.declared.scalar.Value.{Value}
+use Rattle.vortex_types.specs.declared.scalar.Value.TheVariants as value
 use Rattle.vortex_array.specs.declared.arrays.Validity.{Validity}
 use Rattle.vortex_array.specs.declared.arrays.Validity.TheVariants.{NonNullable, AllValid, AllInvalid}
 use Rattle.vortex_array.specs.declared.arrays.PrimitiveBuffer.{PrimitiveBuffer}
 use Rattle.vortex_array.specs.declared.arrays.PrimitiveBuffer.TheVariants.{U64}
 use Rattle.vortex_array.specs.declared.arrays.Array.{Array}
 use Rattle.vortex_array.specs.declared.arrays.Array.TheVariants.{Primitive}
-use Rattle.vortex_array.specs.Row.{Column}
+use Rattle.vortex_types.specs.Row.{Column}
 use Rattle.vortex_array.specs.Parts.{PrimitiveParts}
 
 -- the numbers of a buffer

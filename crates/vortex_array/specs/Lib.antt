@@ -1,10 +1,3 @@
-pub mod Digits
-pub mod Row
-pub mod Order
-pub mod Matches
-pub mod Truth
-pub mod Cells
-pub mod Typed
 pub mod Parts
 pub mod ColumnOf
 pub mod Batch

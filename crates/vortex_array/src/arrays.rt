@@ -2,10 +2,10 @@
 ghost use Rattle.std.specs.Prelude.{◌≡◌, ◌==◌, IfOk, IsOkAnd, length};
 ghost use Rattle.vortex_array.specs.ColumnOf.{column_of, len_of, nullability_of, primitive_column, ptype_of};
 
-use crate::types::{DType, Nullability, PType};
 use std::alloc::{AllocError, Global};
 use std::marker::Model;
 use vortex_buffer::Buffer;
+use vortex_types::{DType, Nullability, PType};
 
 /// An array and its validity have different lengths.
 #[derive(Clone, Copy, Debug, PartialEq, Eq)]

@@ -1,7 +1,7 @@
 // Arrays and batches, read as the columns and the rows that they stand for.
 ghost use Rattle.std.specs.Prelude.{◌≡◌, IfOk, None, Some, map, pos};
 ghost use Rattle.vortex_array.specs.ColumnOf.{column_of};
-ghost use Rattle.vortex_array.specs.declared.scalar.Value.TheVariants.{Int};
+ghost use Rattle.vortex_types.specs.declared.scalar.Value.TheVariants.{Int};
 ghost use Rattle.vortex_io.specs.Memory.{columns_of};
 ghost use Rattle.vortex_table.specs.ChunkOf.{chunk_column, content_of};
 ghost use Rattle.vortex_table.specs.Given.{given};

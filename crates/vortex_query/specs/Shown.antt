@@ -6,9 +6,9 @@ use Rattle.vortex_array.specs.declared.arrays.Array.{Array}
 use Rattle.vortex_array.specs.declared.arrays.Array.TheVariants.{Primitive}
 use Rattle.vortex_array.specs.declared.arrays.PrimitiveBuffer.{PrimitiveBuffer}
 use Rattle.vortex_array.specs.declared.arrays.PrimitiveBuffer.TheVariants.{U64}
-use Rattle.vortex_array.specs.declared.scalar.Value.TheVariants.{Int}
-use Rattle.vortex_array.specs.declared.column.ColumnDesc.{ColumnDesc}
-use Rattle.vortex_array.specs.Cells.{Row}
+use Rattle.vortex_types.specs.declared.scalar.Value.TheVariants.{Int}
+use Rattle.vortex_types.specs.declared.column.ColumnDesc.{ColumnDesc}
+use Rattle.vortex_types.specs.Cells.{Row}
 use Rattle.vortex_array.specs.ColumnOf.{column_of}
 use Rattle.vortex_table.specs.declared.scan.batch.Batch.{Batch}
 use Rattle.vortex_table.specs.Given.{given}

@@ -5,20 +5,20 @@ use Rattle.std.specs.List.{AllZip, cons_option, range_with_len}
 use Rattle.std.specs.Str.{bytes_eq}
 use Rattle.std.proofs.lemmas.List.{length-map}
 use Rattle.std.proofs.lemmas.Slice.Eq.{bytes_eq-Decides}
-use Rattle.vortex_array.specs.Cells.{Row, cell_of}
-use Rattle.vortex_array.specs.Truth.{keeps}
+use Rattle.vortex_types.specs.Cells.{Row, cell_of}
+use Rattle.vortex_types.specs.Truth.{keeps}
 use Rattle.vortex_array.specs.ColumnOf.{primitive_column}
-use Rattle.vortex_array.specs.declared.types.PType.TheVariants as width
-use Rattle.vortex_array.specs.declared.types.Nullability.TheVariants as nullability
-use Rattle.vortex_array.specs.declared.types.DType.{DType}
-use Rattle.vortex_array.specs.declared.types.DType.TheVariants as dtype
-use Rattle.vortex_array.specs.declared.scalar.Value.TheVariants.{Int}
+use Rattle.vortex_types.specs.declared.types.PType.TheVariants as width
+use Rattle.vortex_types.specs.declared.types.Nullability.TheVariants as nullability
+use Rattle.vortex_types.specs.declared.types.DType.{DType}
+use Rattle.vortex_types.specs.declared.types.DType.TheVariants as dtype
+use Rattle.vortex_types.specs.declared.scalar.Value.TheVariants.{Int}
 use Rattle.vortex_array.specs.declared.arrays.Validity.{Validity}
 use Rattle.vortex_array.specs.declared.arrays.Validity.TheVariants.{NonNullable, AllValid, AllInvalid}
 use Rattle.vortex_array.specs.declared.arrays.PrimitiveBuffer.{PrimitiveBuffer}
 use Rattle.vortex_array.specs.declared.arrays.PrimitiveBuffer.TheVariants.{U64}
 use Rattle.vortex_array.specs.declared.arrays.Array.TheVariants.{Primitive}
-use Rattle.vortex_array.specs.declared.column.ColumnDesc.{ColumnDesc}
+use Rattle.vortex_types.specs.declared.column.ColumnDesc.{ColumnDesc}
 use Rattle.vortex_io.specs.declared.request.IoTarget.TheVariants as target
 use Rattle.vortex_table.specs.declared.built.Comparison.{Comparison}
 use Rattle.vortex_table.specs.declared.chunk.Chunk.{Chunk}

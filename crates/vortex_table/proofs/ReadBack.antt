@@ -6,13 +6,13 @@ use Rattle.vortex_array.specs.declared.arrays.PrimitiveBuffer.TheVariants.{U64}
 use Rattle.vortex_array.specs.declared.arrays.Validity.{Validity}
 use Rattle.vortex_array.specs.declared.arrays.Validity.TheVariants.{NonNullable, AllValid, AllInvalid}
 use Rattle.vortex_array.specs.declared.arrays.Array.TheVariants.{Primitive}
-use Rattle.vortex_array.specs.declared.scalar.Value.{Value}
-use Rattle.vortex_array.specs.declared.scalar.Value.TheVariants as value
+use Rattle.vortex_types.specs.declared.scalar.Value.{Value}
+use Rattle.vortex_types.specs.declared.scalar.Value.TheVariants as value
 use Rattle.vortex_array.specs.ColumnOf.{nullability_of, numbers_of, primitive_column, rows_under}
 use Rattle.vortex_array.specs.Parts.{PrimitiveParts}
-use Rattle.vortex_array.specs.Row.{Column}
-use Rattle.vortex_array.specs.declared.types.DType.TheVariants as dtype
-use Rattle.vortex_array.specs.declared.types.PType.TheVariants as width
+use Rattle.vortex_types.specs.Row.{Column}
+use Rattle.vortex_types.specs.declared.types.DType.TheVariants as dtype
+use Rattle.vortex_types.specs.declared.types.PType.TheVariants as width
 use Rattle.vortex_io.specs.Source.{Agrees}
 use Rattle.vortex_io.specs.declared.request.Fetch.{Fetch}
 use Rattle.vortex_io.specs.declared.request.IoResult.TheVariants as result

@@ -1,6 +1,6 @@
 use Rattle.std.proofs.Common.{◌∙◌, sym, ap, ◌++◌, ◌∷◌, [], pos}
 use Rattle.std.specs.Prelude.{None}
-use Rattle.vortex_array.specs.declared.scalar.Value.TheVariants.{Int}
+use Rattle.vortex_types.specs.declared.scalar.Value.TheVariants.{Int}
 use Rattle.vortex_judge.proofs.Places.{thrice_mapped_more}
 use Rattle.vortex_judge.proofs.read.absent_rows.Goals as goal
 

@@ -1,18 +1,18 @@
 -- The truth of a filter for one row, in three values: true, false, null.
 use Rattle.std.specs.Prelude.{ℕ, List, Bool, true, false, not, ◌&&◌, Option, Some, None, is_none, option_map, option_and_then}
-use Rattle.vortex_array.specs.declared.scalar.Value.{Value}
-use Rattle.vortex_array.specs.declared.scalar.Value.TheVariants as value
+use Rattle.vortex_types.specs.declared.scalar.Value.{Value}
+use Rattle.vortex_types.specs.declared.scalar.Value.TheVariants as value
 use Rattle.vortex_compute.specs.declared.compare.CompareOperator.{CompareOperator}
 use Rattle.vortex_compute.specs.declared.compare.CompareOperator.TheVariants.{Gt, Gte, Lt, Lte}
-use Rattle.vortex_array.specs.declared.filter.StrictComparison.{StrictComparison}
-use Rattle.vortex_array.specs.declared.filter.StrictComparison.TheVariants.{Strict, NonStrict}
-use Rattle.vortex_array.specs.declared.filter.BetweenOptions.{BetweenOptions}
-use Rattle.vortex_array.specs.declared.filter.Operand.{Operand}
-use Rattle.vortex_array.specs.declared.filter.Operand.TheVariants.{Column, Constant}
-use Rattle.vortex_array.specs.declared.filter.Filter.{Filter, fold-Filter}
-use Rattle.vortex_array.specs.declared.filter.Filter.TheOpen.{Filter-F}
-use Rattle.vortex_array.specs.Order.{compares}
-use Rattle.vortex_array.specs.Matches.{matches}
+use Rattle.vortex_types.specs.declared.filter.StrictComparison.{StrictComparison}
+use Rattle.vortex_types.specs.declared.filter.StrictComparison.TheVariants.{Strict, NonStrict}
+use Rattle.vortex_types.specs.declared.filter.BetweenOptions.{BetweenOptions}
+use Rattle.vortex_types.specs.declared.filter.Operand.{Operand}
+use Rattle.vortex_types.specs.declared.filter.Operand.TheVariants.{Column, Constant}
+use Rattle.vortex_types.specs.declared.filter.Filter.{Filter, fold-Filter}
+use Rattle.vortex_types.specs.declared.filter.Filter.TheOpen.{Filter-F}
+use Rattle.vortex_types.specs.Order.{compares}
+use Rattle.vortex_types.specs.Matches.{matches}
 
 -- a row gives a value or null for each name
 abbrev pub Cells : Type 0

@@ -1,14 +1,14 @@
 -- Values, rows and columns.
 use Rattle.std.specs.Prelude.{ℕ, ◌^◌, ◌-◌, ℤ, pos, neg_ℤ, int_le, int_lt, Bool, true, false, ◌&&◌, List, Option, Some, None}
 use Rattle.std.specs.List.{list_all}
-use Rattle.vortex_array.specs.declared.types.PType.{PType}
-use Rattle.vortex_array.specs.declared.types.PType.TheVariants.{U8, U16, U32, U64, I8, I16, I32, I64}
-use Rattle.vortex_array.specs.declared.types.Nullability.{Nullability}
-use Rattle.vortex_array.specs.declared.types.Nullability.TheVariants.{NonNullable, Nullable}
-use Rattle.vortex_array.specs.declared.types.DType.{DType}
-use Rattle.vortex_array.specs.declared.types.DType.TheVariants as dtype
-use Rattle.vortex_array.specs.declared.scalar.Value.{Value}
-use Rattle.vortex_array.specs.declared.scalar.Value.TheVariants as value
+use Rattle.vortex_types.specs.declared.types.PType.{PType}
+use Rattle.vortex_types.specs.declared.types.PType.TheVariants.{U8, U16, U32, U64, I8, I16, I32, I64}
+use Rattle.vortex_types.specs.declared.types.Nullability.{Nullability}
+use Rattle.vortex_types.specs.declared.types.Nullability.TheVariants.{NonNullable, Nullable}
+use Rattle.vortex_types.specs.declared.types.DType.{DType}
+use Rattle.vortex_types.specs.declared.types.DType.TheVariants as dtype
+use Rattle.vortex_types.specs.declared.scalar.Value.{Value}
+use Rattle.vortex_types.specs.declared.scalar.Value.TheVariants as value
 
 -- the number is unsigned, with so many bits
 abbrev pub in_unsigned : ℕ → ℤ → Bool

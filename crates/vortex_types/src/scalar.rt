@@ -1,6 +1,7 @@
 // Values, and values of a type.
 ghost use Rattle.std.specs.Prelude.{◌≡◌, ◌↔◌, IsTrue, IsFalse, IfOk, OnErr, None, option_copied};
-ghost use Rattle.vortex_array.specs.Row.{fits_type, value_fits};
+ghost use Rattle.vortex_types.specs.Row.{fits_type, value_fits};
+ghost use Rattle.vortex_types.specs.Widths.{nullable_form};
 
 use crate::names::{Bytes, Text};
 use crate::types::DType;
@@ -45,7 +46,7 @@ pub struct Scalar {
 
 impl Model for Scalar {
     ghost use Rattle.std.specs.Prelude.{IsTrue};
-    ghost use Rattle.vortex_array.specs.Row.{fits_type, TypedRow};
+    ghost use Rattle.vortex_types.specs.Row.{fits_type, TypedRow};
 
     ghost Value = { TypedRow };
 
@@ -88,6 +89,17 @@ impl Scalar {
         ensures { IsTrue result ↔ (self.now.value ≡ None) }
     {
         self.value.is_none()
+    }
+
+    /// The same value, of the type with nulls.
+    pub fn into_nullable(self) -> Scalar
+        ensures { result ≡ record { dtype = nullable_form self.dtype; value = self.value } }
+    {
+        let Scalar { dtype, value } = self;
+        Scalar {
+            dtype: dtype.into_nullable(),
+            value,
+        }
     }
 
     /// A second scalar of the same type and value.

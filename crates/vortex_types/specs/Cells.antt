@@ -1,9 +1,9 @@
 -- Rows of several columns, and what stands under a name.
 use Rattle.std.specs.Prelude.{ℕ, List, [], ◌∷◌, Option, Some, None, if◌then◌else◌}
 use Rattle.std.specs.Str.{bytes_eq}
-use Rattle.vortex_array.specs.declared.types.DType.{DType}
-use Rattle.vortex_array.specs.declared.scalar.Value.{Value}
-use Rattle.vortex_array.specs.declared.column.ColumnDesc.{ColumnDesc}
+use Rattle.vortex_types.specs.declared.types.DType.{DType}
+use Rattle.vortex_types.specs.declared.scalar.Value.{Value}
+use Rattle.vortex_types.specs.declared.column.ColumnDesc.{ColumnDesc}
 
 -- a value or null for each column
 abbrev pub Row : Type 0

@@ -1,16 +1,16 @@
 -- The names that a filter has, and the type rules that it meets.
 use Rattle.std.specs.Prelude.{ℕ, List, [], ◌∷◌, ◌++◌, Bool, true, false, ◌&&◌, ◌==◌, Option, Some, None}
 use Rattle.std.specs.Ordering.{int_eq}
-use Rattle.vortex_array.specs.declared.types.PType.{PType}
-use Rattle.vortex_array.specs.declared.types.PType.TheVariants.{U8, U16, U32, U64, I8, I16, I32, I64}
-use Rattle.vortex_array.specs.declared.types.DType.{DType}
-use Rattle.vortex_array.specs.declared.types.DType.TheVariants.{Bool as TruthValue, Primitive, Decimal, Utf8, Binary}
-use Rattle.vortex_array.specs.declared.column.ColumnDesc.{ColumnDesc}
-use Rattle.vortex_array.specs.declared.filter.Operand.{Operand}
-use Rattle.vortex_array.specs.declared.filter.Operand.TheVariants.{Column, Constant}
-use Rattle.vortex_array.specs.declared.filter.Filter.{Filter, fold-Filter}
-use Rattle.vortex_array.specs.declared.filter.Filter.TheOpen.{Filter-F}
-use Rattle.vortex_array.specs.Cells.{dtype_of}
+use Rattle.vortex_types.specs.declared.types.PType.{PType}
+use Rattle.vortex_types.specs.declared.types.PType.TheVariants.{U8, U16, U32, U64, I8, I16, I32, I64}
+use Rattle.vortex_types.specs.declared.types.DType.{DType}
+use Rattle.vortex_types.specs.declared.types.DType.TheVariants.{Bool as TruthValue, Primitive, Decimal, Utf8, Binary}
+use Rattle.vortex_types.specs.declared.column.ColumnDesc.{ColumnDesc}
+use Rattle.vortex_types.specs.declared.filter.Operand.{Operand}
+use Rattle.vortex_types.specs.declared.filter.Operand.TheVariants.{Column, Constant}
+use Rattle.vortex_types.specs.declared.filter.Filter.{Filter, fold-Filter}
+use Rattle.vortex_types.specs.declared.filter.Filter.TheOpen.{Filter-F}
+use Rattle.vortex_types.specs.Cells.{dtype_of}
 
 -- the name of a column, and none of a constant
 abbrev pub operand_names : Operand → List (List ℕ)

@@ -1,16 +1,15 @@
-// Worked cases. Their expected values are from outside the programs.
-mod choosing;
-mod filtering;
-mod judging;
-mod scanning;
-
-use crate::{PlacedRow, PlainRow, PlainRows, PlainTable};
+// What the cases share: columns, filters, rows and tables of one column.
+//
+// A test holds no filter, request, table or question beside a `?`, since each way out of a function lets go of all that
+// it holds, and the proof goes through each: small functions own these values, and a test sees what they say of them.
+use sqlite_items::Boxed;
 use std::alloc::{AllocError, Global};
 use std::test::Fail;
 use vortex_array::{
     ColumnDesc, CompareOperator, DType, Filter, Name, Nullability, Operand, PType, Scalar, Text,
     Value,
 };
+use vortex_judge::{PlacedRow, PlainRow, PlainRows, PlainTable};
 use vortex_table::{ScanRequest, WorkScope};
 
 pub const U64: DType = DType::Primitive(PType::U64, Nullability::NonNullable);
@@ -46,16 +45,19 @@ pub fn compare(
     dtype: DType,
     number: i128,
 ) -> Result<Filter, Fail> {
-    Ok(Filter::Compare(
-        operator,
-        column(alloc, text)?,
-        constant(dtype, Some(Value::Int(number)))?,
-    ))
+    let column = column(alloc, text)?;
+    let number = constant(dtype, Some(Value::Int(number)))?;
+    Ok(Filter::Compare(operator, column, number))
 }
 
 /// Whether the column is above a number of the column's type.
 pub fn above(alloc: Global, text: &str, dtype: DType, number: i128) -> Result<Filter, Fail> {
     compare(alloc, CompareOperator::Gt, text, dtype, number)
+}
+
+/// A filter as a part of another. It comes as it was made, so that no caller holds it.
+pub fn boxed(alloc: Global, filter: Result<Filter, Fail>) -> Result<Boxed<Filter>, Fail> {
+    Ok(Boxed::new(alloc, filter?)?)
 }
 
 /// A request for the rows that a filter keeps.
@@ -65,11 +67,29 @@ pub fn filtered(filter: Filter) -> ScanRequest {
     request
 }
 
-pub fn desc(alloc: Global, text: &str, dtype: DType) -> Result<ColumnDesc, AllocError> {
+fn desc(alloc: Global, text: &str, dtype: DType) -> Result<ColumnDesc, AllocError> {
     Ok(ColumnDesc {
         name: name(alloc, text)?,
         dtype,
     })
+}
+
+/// Puts a column behind others.
+pub fn push_column(
+    alloc: Global,
+    columns: &mut Vec<ColumnDesc>,
+    text: &str,
+    dtype: DType,
+) -> Result<(), AllocError> {
+    columns.push(desc(alloc, text, dtype)?)?;
+    Ok(())
+}
+
+/// One column.
+pub fn one_column(alloc: Global, text: &str, dtype: DType) -> Result<Vec<ColumnDesc>, AllocError> {
+    let mut columns = Vec::new(alloc);
+    push_column(alloc, &mut columns, text, dtype)?;
+    Ok(columns)
 }
 
 /// A number or null.
@@ -94,9 +114,15 @@ pub fn cells(alloc: Global, numbers: &[i128]) -> Result<PlainRow, AllocError> {
 pub fn rows_of(alloc: Global, numbers: &[i128]) -> Result<PlainRows, AllocError> {
     let mut rows = Vec::new(alloc);
     for number in numbers {
-        rows.push(PlainRow::new(vec![in alloc; cell(*number)]?))?;
+        rows.push(cells(alloc, &[*number])?)?;
     }
     Ok(PlainRows::new(rows))
+}
+
+fn one_partition(alloc: Global, numbers: &[i128]) -> Result<Vec<PlainRows>, AllocError> {
+    let mut partitions = Vec::new(alloc);
+    partitions.push(rows_of(alloc, numbers)?)?;
+    Ok(partitions)
 }
 
 /// A table of one column and one partition.
@@ -106,8 +132,9 @@ pub fn table_of(
     dtype: DType,
     numbers: &[i128],
 ) -> Result<PlainTable, AllocError> {
-    let columns = vec![in alloc; desc(alloc, text, dtype)?]?;
-    Ok(PlainTable::new(columns, vec![in alloc; rows_of(alloc, numbers)?]?))
+    let columns = one_column(alloc, text, dtype)?;
+    let partitions = one_partition(alloc, numbers)?;
+    Ok(PlainTable::new(columns, partitions))
 }
 
 /// These rows of the first partition.
@@ -118,14 +145,23 @@ pub fn scope(start: u64, end: u64) -> WorkScope {
     }
 }
 
-/// The numbers in the first column.
-pub fn numbers(alloc: Global, rows: &[PlacedRow]) -> Result<Vec<i128>, AllocError> {
-    let mut list = Vec::new(alloc);
-    for row in rows {
-        match row.values() {
-            [Some(Value::Int(number)), ..] => list.push(*number)?,
-            _ => list.push(NULL)?,
+// The number in the first column.
+fn number_in(row: &PlacedRow) -> i128 {
+    match row.values() {
+        [Some(Value::Int(number)), ..] => *number,
+        _ => NULL,
+    }
+}
+
+/// Whether the numbers in the first column are these.
+pub fn have_numbers(rows: &[PlacedRow], numbers: &[i128]) -> bool {
+    if rows.len() != numbers.len() {
+        return false;
+    }
+    for index in 0..rows.len() {
+        if number_in(&rows[index]) != numbers[index] {
+            return false;
         }
     }
-    Ok(list)
+    true
 }

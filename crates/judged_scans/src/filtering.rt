@@ -1,15 +1,15 @@
 // What filters say of rows, and which requests are valid.
-use super::{
-    I32_OR_NULL, NULL, TEXT, U64, above, cell, column, constant, desc, filtered, name, text,
+use crate::cases::{
+    I32_OR_NULL, NULL, TEXT, U64, above, boxed, cell, cells, column, constant, filtered, name,
+    one_column, push_column, text,
 };
-use crate::{and, compares, first_unknown, matches, or, truth_of, well_typed};
-use sqlite_items::Boxed;
 use std::alloc::{AllocError, Global};
 use std::test::Fail;
 use vortex_array::{
     BetweenOptions, Bytes, ColumnDesc, CompareOperator, DType, DecimalDType, Filter, Nullability,
-    PType, Scalar, StrictComparison, Value,
+    PType, StrictComparison, Value,
 };
+use vortex_judge::{PlainRow, and, compares, first_unknown, matches, or, truth_of, well_typed};
 use vortex_table::{Names, Projection, ScanRequest};
 
 #[test]
@@ -57,6 +57,10 @@ fn both_and_either_in_three_values(rt: HostRuntime) {
     }
 }
 
+fn compares_numbers(operator: CompareOperator, left: i128, right: i128) -> bool {
+    compares(operator, &Value::Int(left), &Value::Int(right))
+}
+
 #[test]
 fn operators_on_numbers(rt: HostRuntime) {
     for (operator, below, same, above) in [
@@ -67,37 +71,63 @@ fn operators_on_numbers(rt: HostRuntime) {
         (CompareOperator::Lt, true, false, false),
         (CompareOperator::Lte, true, true, false),
     ] {
-        let number = Value::Int(9223372036854775808);
-        assert_eq!(rt; compares(operator, &Value::Int(1), &number), below);
-        assert_eq!(rt; compares(operator, &number, &number), same);
+        let number = 9223372036854775808;
+        assert_eq!(rt; compares_numbers(operator, 1, number), below);
+        assert_eq!(rt; compares_numbers(operator, number, number), same);
         assert_eq!(rt;
-            compares(operator, &Value::Int(18446744073709551615), &number),
+            compares_numbers(operator, 18446744073709551615, number),
             above
         );
     }
 }
 
+fn compares_texts(
+    alloc: Global,
+    operator: CompareOperator,
+    left: &str,
+    right: &str,
+) -> Result<bool, AllocError> {
+    let left = text(alloc, left)?;
+    let right = text(alloc, right)?;
+    Ok(compares(operator, &left, &right))
+}
+
 #[test]
-fn orders_of_texts_and_bytes(rt: HostRuntime) -> Result<(), Fail> {
+fn orders_of_texts(rt: HostRuntime) -> Result<(), Fail> {
     let alloc = rt.alloc();
     for (a, b) in [("Z", "a"), ("a", "aa"), ("z", "é"), ("", "a")] {
         assert!(rt;
-            compares(CompareOperator::Lt, &text(alloc, a)?, &text(alloc, b)?),
+            compares_texts(alloc, CompareOperator::Lt, a, b)?,
             "{a} and {b}"
         );
         assert!(rt;
-            !compares(CompareOperator::Gte, &text(alloc, a)?, &text(alloc, b)?),
+            !compares_texts(alloc, CompareOperator::Gte, a, b)?,
             "{a} and {b}"
         );
     }
-    let high = Value::Binary(Bytes::from_slice(alloc, &[255])?);
-    let low = Value::Binary(Bytes::from_slice(alloc, &[0, 255])?);
-    assert!(rt; compares(CompareOperator::Gt, &high, &low));
-    assert!(rt; compares(CompareOperator::Lt, &Value::Bool(false), &Value::Bool(true)));
-    assert!(rt;
-        !compares(CompareOperator::NotEq, &Value::Bool(false), &Value::Int(0)),
-        "two kinds"
-    );
+    Ok(())
+}
+
+fn is_above(alloc: Global, left: &[u8], right: &[u8]) -> Result<bool, AllocError> {
+    let left = Value::Binary(Bytes::from_slice(alloc, left)?);
+    let right = Value::Binary(Bytes::from_slice(alloc, right)?);
+    Ok(compares(CompareOperator::Gt, &left, &right))
+}
+
+fn false_is_below_true() -> bool {
+    compares(CompareOperator::Lt, &Value::Bool(false), &Value::Bool(true))
+}
+
+fn two_kinds_differ() -> bool {
+    compares(CompareOperator::NotEq, &Value::Bool(false), &Value::Int(0))
+}
+
+#[test]
+fn orders_of_bytes_and_truths(rt: HostRuntime) -> Result<(), Fail> {
+    let alloc = rt.alloc();
+    assert!(rt; is_above(alloc, &[255], &[0, 255])?);
+    assert!(rt; false_is_below_true());
+    assert!(rt; !two_kinds_differ(), "two kinds");
     Ok(())
 }
 
@@ -113,10 +143,10 @@ fn between(alloc: Global, lower: i128, upper: i128) -> Result<Filter, Fail> {
 }
 
 // The truth of a filter where the column `x` has this number.
-fn truth_at(alloc: Global, filter: &Filter, number: i128) -> Result<Option<bool>, AllocError> {
-    let columns = vec![in alloc; desc(alloc, "x", I32_OR_NULL)?]?;
-    let row = vec![in alloc; cell(number)]?;
-    Ok(truth_of(&columns, &row, filter))
+fn truth_at(alloc: Global, filter: &Filter, number: i128) -> Result<Option<bool>, Fail> {
+    let columns = one_column(alloc, "x", I32_OR_NULL)?;
+    let row = cells(alloc, &[number])?;
+    Ok(truth_of(&columns, row.as_slice(), filter))
 }
 
 // The truth of a number's lying between two others.
@@ -127,7 +157,7 @@ fn truth_between(
     upper: i128,
 ) -> Result<Option<bool>, Fail> {
     let filter = between(alloc, lower, upper)?;
-    Ok(truth_at(alloc, &filter, number)?)
+    truth_at(alloc, &filter, number)
 }
 
 #[test]
@@ -155,57 +185,78 @@ fn price(scale: i8) -> Result<DType, Fail> {
 
 // Whether the column `p` is at most a decimal of so many digits behind the point.
 fn is_cheap(alloc: Global, scale: i8, number: i128) -> Result<Filter, Fail> {
-    Ok(Filter::Compare(
-        CompareOperator::Lte,
-        column(alloc, "p")?,
-        constant(price(scale)?, Some(Value::Decimal(number)))?,
-    ))
+    let price = constant(price(scale)?, Some(Value::Decimal(number)))?;
+    Ok(Filter::Compare(CompareOperator::Lte, column(alloc, "p")?, price))
+}
+
+// The column `p`, of hundredths.
+fn priced(alloc: Global) -> Result<Vec<ColumnDesc>, Fail> {
+    Ok(one_column(alloc, "p", price(2)?)?)
+}
+
+fn row_of_price(alloc: Global, number: i128) -> Result<PlainRow, AllocError> {
+    let mut row = Vec::new(alloc);
+    row.push(Some(Value::Decimal(number)))?;
+    Ok(PlainRow::new(row))
 }
 
 // The truth of a filter where the column `p` has this number of hundredths.
 fn truth_at_price(alloc: Global, filter: &Filter, number: i128) -> Result<Option<bool>, Fail> {
-    let kind = price(2)?;
-    let columns = vec![in alloc; desc(alloc, "p", kind)?]?;
-    let row = vec![in alloc; Some(Value::Decimal(number))]?;
-    Ok(truth_of(&columns, &row, filter))
+    let columns = priced(alloc)?;
+    let row = row_of_price(alloc, number)?;
+    Ok(truth_of(&columns, row.as_slice(), filter))
+}
+
+// The truth of a number's being at most -7 hundredths.
+fn truth_of_price(alloc: Global, number: i128) -> Result<Option<bool>, Fail> {
+    let filter = is_cheap(alloc, 2, -7)?;
+    truth_at_price(alloc, &filter, number)
 }
 
 #[test]
 fn decimals_are_compared_by_their_numbers(rt: HostRuntime) -> Result<(), Fail> {
     let alloc = rt.alloc();
-    let filter = is_cheap(alloc, 2, -7)?;
     for (number, want) in [(150, Some(false)), (-7, Some(true)), (-8, Some(true))] {
-        let truth = truth_at_price(alloc, &filter, number)?;
+        let truth = truth_of_price(alloc, number)?;
         assert_eq!(rt; truth, want, "{number}");
     }
     Ok(())
 }
 
+fn meets_rules_of_prices(alloc: Global, filter: &Option<Filter>) -> Result<bool, Fail> {
+    let columns = priced(alloc)?;
+    Ok(well_typed(&columns, filter))
+}
+
+// Whether hundredths may be compared with a decimal of so many digits behind the point.
+fn is_scale_typed(alloc: Global, scale: i8) -> Result<bool, Fail> {
+    let filter = Some(is_cheap(alloc, scale, -7)?);
+    meets_rules_of_prices(alloc, &filter)
+}
+
 #[test]
 fn decimals_of_two_scales_are_two_types(rt: HostRuntime) -> Result<(), Fail> {
     let alloc = rt.alloc();
-    let columns = vec![in alloc; desc(alloc, "p", price(2)?)?]?;
-    assert!(rt; well_typed(&columns, &Some(is_cheap(alloc, 2, -7)?)));
-    assert!(rt; !well_typed(&columns, &Some(is_cheap(alloc, 3, -7)?)));
+    assert!(rt; is_scale_typed(alloc, 2)?);
+    assert!(rt; !is_scale_typed(alloc, 3)?);
     Ok(())
 }
 
 fn two_columns(alloc: Global) -> Result<Vec<ColumnDesc>, AllocError> {
-    let mut columns = Vec::new(alloc);
-    columns.push(desc(alloc, "a", U64)?)?;
-    columns.push(desc(alloc, "t", TEXT)?)?;
+    let mut columns = one_column(alloc, "a", U64)?;
+    push_column(alloc, &mut columns, "t", TEXT)?;
     Ok(columns)
 }
 
-// Whether a filter on a number `a` and a text `t` meets the type rules.
-fn is_typed(alloc: Global, filter: Filter) -> Result<bool, AllocError> {
-    let filter = Some(filter);
-    meets_rules(alloc, &filter)
-}
-
-fn meets_rules(alloc: Global, filter: &Option<Filter>) -> Result<bool, AllocError> {
+fn meets_rules(alloc: Global, filter: &Option<Filter>) -> Result<bool, Fail> {
     let columns = two_columns(alloc)?;
     Ok(well_typed(&columns, filter))
+}
+
+// Whether a filter on a number `a` and a text `t` meets the type rules. It comes as it was made, so that no test holds it.
+fn is_typed(alloc: Global, filter: Result<Filter, Fail>) -> Result<bool, Fail> {
+    let filter = Some(filter?);
+    meets_rules(alloc, &filter)
 }
 
 // Whether the column matches any text.
@@ -215,19 +266,27 @@ fn like_any(alloc: Global, name: &str) -> Result<Filter, Fail> {
 }
 
 // Whether one text column matches another.
-fn like_column(alloc: Global) -> Result<Filter, AllocError> {
+fn like_column(alloc: Global) -> Result<Filter, Fail> {
     let pattern = column(alloc, "t")?;
     Ok(Filter::Like(column(alloc, "t")?, pattern))
 }
 
-fn truth(alloc: Global) -> Result<Filter, AllocError> {
+fn truth(alloc: Global) -> Result<Filter, Fail> {
     Ok(Filter::Truth(column(alloc, "a")?))
 }
 
 fn part_breaks_a_rule(alloc: Global) -> Result<Filter, Fail> {
-    let right = Boxed::new(alloc, truth(alloc)?)?;
-    let left = Boxed::new(alloc, above(alloc, "a", U64, 1)?)?;
+    let right = boxed(alloc, truth(alloc))?;
+    let left = boxed(alloc, above(alloc, "a", U64, 1))?;
     Ok(Filter::Or(left, right))
+}
+
+// Whether the column of 64 bits may be compared with a number of this width.
+fn is_width_typed(alloc: Global, width: PType, nullability: Nullability) -> Result<bool, Fail> {
+    is_typed(
+        alloc,
+        above(alloc, "a", DType::Primitive(width, nullability), 1),
+    )
 }
 
 #[test]
@@ -243,43 +302,42 @@ fn rules_of_types(rt: HostRuntime) -> Result<(), Fail> {
         ),
         ("another width", PType::I64, Nullability::NonNullable, false),
     ] {
-        let filter = above(alloc, "a", DType::Primitive(width, nullability), 1)?;
-        assert_eq!(rt; is_typed(alloc, filter)?, want, "{case}");
+        assert_eq!(rt; is_width_typed(alloc, width, nullability)?, want, "{case}");
     }
-    assert!(rt; !is_typed(alloc, truth(alloc)?)?, "a number alone");
-    assert!(rt; !is_typed(alloc, part_breaks_a_rule(alloc)?)?, "in a part");
+    assert!(rt; !is_typed(alloc, truth(alloc))?, "a number alone");
+    assert!(rt; !is_typed(alloc, part_breaks_a_rule(alloc))?, "in a part");
     Ok(())
 }
 
 #[test]
 fn rules_of_types_of_patterns(rt: HostRuntime) -> Result<(), Fail> {
     let alloc = rt.alloc();
-    assert!(rt; is_typed(alloc, like_any(alloc, "t")?)?, "a constant");
-    assert!(rt; !is_typed(alloc, like_column(alloc)?)?, "a column");
-    assert!(rt; !is_typed(alloc, like_any(alloc, "a")?)?, "on numbers");
+    assert!(rt; is_typed(alloc, like_any(alloc, "t"))?, "a constant");
+    assert!(rt; !is_typed(alloc, like_column(alloc))?, "a column");
+    assert!(rt; !is_typed(alloc, like_any(alloc, "a"))?, "on numbers");
     Ok(())
 }
 
 // Whether the first unknown name of a request over the column `a` is this one.
-fn is_first_unknown(alloc: Global, request: &ScanRequest, want: &str) -> Result<bool, AllocError> {
-    let columns = vec![in alloc; desc(alloc, "a", U64)?]?;
+fn is_first_unknown(alloc: Global, request: &ScanRequest, want: &str) -> Result<bool, Fail> {
+    let columns = one_column(alloc, "a", U64)?;
     match first_unknown(&columns, request) {
         Some(found) => Ok(found.as_str() == want),
         None => Ok(false),
     }
 }
 
-// Whether the first unknown name of a filter over the column `a` is this one.
-fn names_first(alloc: Global, filter: Filter, want: &str) -> Result<bool, AllocError> {
-    let request = filtered(filter);
-    is_first_unknown(alloc, &request, want)
-}
-
 // Whether two columns are above 1.
 fn both(alloc: Global, left: &str, right: &str) -> Result<Filter, Fail> {
-    let left = Boxed::new(alloc, above(alloc, left, U64, 1)?)?;
-    let right = Boxed::new(alloc, above(alloc, right, U64, 1)?)?;
+    let left = boxed(alloc, above(alloc, left, U64, 1))?;
+    let right = boxed(alloc, above(alloc, right, U64, 1))?;
     Ok(Filter::And(left, right))
+}
+
+// Whether the first unknown name of a filter on these two columns, over the column `a`, is this one.
+fn names_first(alloc: Global, left: &str, right: &str, want: &str) -> Result<bool, Fail> {
+    let request = filtered(both(alloc, left, right)?);
+    is_first_unknown(alloc, &request, want)
 }
 
 #[test]
@@ -291,12 +349,8 @@ fn unknown_names_in_order(rt: HostRuntime) -> Result<(), Fail> {
         ("x", "a", "x", true),
         ("a", "a", "a", false),
     ] {
-        let filter = both(alloc, left, right)?;
-        assert_eq!(rt;
-            names_first(alloc, filter, want)?,
-            holds,
-            "{left} and {right}"
-        );
+        let found = names_first(alloc, left, right, want)?;
+        assert_eq!(rt; found, holds, "{left} and {right}");
     }
     Ok(())
 }
@@ -316,11 +370,21 @@ fn projected(names: Names, filter: Filter) -> ScanRequest {
     request
 }
 
+// A request whose projection and filter both name unknown columns.
+fn unknown_in_both(alloc: Global) -> Result<ScanRequest, Fail> {
+    let names = two_names(alloc)?;
+    let filter = both(alloc, "x", "y")?;
+    Ok(projected(names, filter))
+}
+
+fn projection_comes_first(alloc: Global) -> Result<bool, Fail> {
+    let request = unknown_in_both(alloc)?;
+    is_first_unknown(alloc, &request, "zz")
+}
+
 #[test]
 fn unknown_names_of_projections_come_first(rt: HostRuntime) -> Result<(), Fail> {
     let alloc = rt.alloc();
-    let names = two_names(alloc)?;
-    let request = projected(names, both(alloc, "x", "y")?);
-    assert!(rt; is_first_unknown(alloc, &request, "zz")?);
+    assert!(rt; projection_comes_first(alloc)?);
     Ok(())
 }

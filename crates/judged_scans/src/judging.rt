@@ -1,10 +1,26 @@
 // Which batches are answers.
-use super::{I32_OR_NULL, NULL, U64, above, cells, filtered, scope, table_of};
-use crate::{PlacedRow, PlainBatch, PlainColumn, Question, answers, chosen_rows};
+use crate::cases::{I32_OR_NULL, NULL, U64, above, cells, filtered, scope, table_of};
 use std::alloc::{AllocError, Global};
 use std::test::Fail;
-use vortex_array::{DType, Filter};
+use vortex_array::DType;
+use vortex_judge::{
+    PlacedRow, PlainBatch, PlainColumn, PlainTable, Question, answers, chosen_rows,
+};
 use vortex_table::{ScanRequest, WorkScope};
+
+fn three_scopes(alloc: Global) -> Result<Vec<WorkScope>, AllocError> {
+    let mut scopes = Vec::new(alloc);
+    for start in [0, 2, 4] {
+        scopes.push(scope(start, start.saturating_add(2)))?;
+    }
+    Ok(scopes)
+}
+
+fn one_type(alloc: Global, dtype: DType) -> Result<Vec<DType>, AllocError> {
+    let mut types = Vec::new(alloc);
+    types.push(dtype)?;
+    Ok(types)
+}
 
 // The question over three splits of two rows.
 fn question_of(
@@ -13,17 +29,26 @@ fn question_of(
     rows: Vec<PlacedRow>,
     limit: Option<u64>,
     ordered: bool,
-) -> Result<Question, AllocError> {
-    let scopes = vec![in alloc; scope(0, 2), scope(2, 4), scope(4, 6)]?;
-    let types = vec![in alloc; dtype]?;
+) -> Result<Question, Fail> {
+    let scopes = three_scopes(alloc)?;
+    let types = one_type(alloc, dtype)?;
     Ok(Question::new(scopes, types, rows, limit, ordered))
 }
 
-// The question for the rows 1 to 6, two of them in each split.
-fn six_rows(alloc: Global, limit: Option<u64>, ordered: bool) -> Result<Question, AllocError> {
+fn all_rows(alloc: Global, table: &PlainTable) -> Result<Vec<PlacedRow>, AllocError> {
+    let request = ScanRequest::default();
+    chosen_rows(alloc, &request, table)
+}
+
+// The rows 1 to 6.
+fn one_to_six(alloc: Global) -> Result<Vec<PlacedRow>, AllocError> {
     let table = table_of(alloc, "a", U64, &[1, 2, 3, 4, 5, 6])?;
-    let rows = chosen_rows(alloc, &ScanRequest::default(), &table)?;
-    question_of(alloc, U64, rows, limit, ordered)
+    all_rows(alloc, &table)
+}
+
+// The question for the rows 1 to 6, two of them in each split.
+fn six_rows(alloc: Global, limit: Option<u64>, ordered: bool) -> Result<Question, Fail> {
+    question_of(alloc, U64, one_to_six(alloc)?, limit, ordered)
 }
 
 fn batch(
@@ -32,7 +57,8 @@ fn batch(
     dtype: DType,
     numbers: &[i128],
 ) -> Result<PlainBatch, AllocError> {
-    let columns = vec![in alloc; PlainColumn::new(dtype, cells(alloc, numbers)?)]?;
+    let mut columns = Vec::new(alloc);
+    columns.push(PlainColumn::new(dtype, cells(alloc, numbers)?))?;
     Ok(PlainBatch::new(scope, numbers.len() as u64, columns))
 }
 
@@ -81,20 +107,28 @@ fn batch_of(alloc: Global, part: &Part) -> Result<PlainBatch, AllocError> {
     batch(alloc, scope, U64, &numbers)
 }
 
-// Whether these batches are an answer.
-fn answer(alloc: Global, question: &Question, parts: &[Part]) -> Result<bool, AllocError> {
+fn batches_of(alloc: Global, parts: &[Part]) -> Result<Vec<PlainBatch>, AllocError> {
     let mut batches = Vec::new(alloc);
     for part in parts {
         batches.push(batch_of(alloc, part)?)?;
     }
-    answers(alloc, question, &batches)
+    Ok(batches)
+}
+
+fn are_answer_to(alloc: Global, question: &Question, parts: &[Part]) -> Result<bool, Fail> {
+    let batches = batches_of(alloc, parts)?;
+    Ok(answers(alloc, question, &batches)?)
+}
+
+// Whether these batches answer the question for six rows, with this limit and wish for order.
+fn answer(alloc: Global, limit: Option<u64>, ordered: bool, parts: &[Part]) -> Result<bool, Fail> {
+    let question = six_rows(alloc, limit, ordered)?;
+    are_answer_to(alloc, &question, parts)
 }
 
 #[test]
 fn limits_over_three_splits(rt: HostRuntime) -> Result<(), Fail> {
     let alloc = rt.alloc();
-    let free = six_rows(alloc, Some(3), false)?;
-    let strict = six_rows(alloc, Some(3), true)?;
     for (case, parts, without_order, in_order) in [
         (
             "the last split, and then a part of the middle one",
@@ -130,8 +164,16 @@ fn limits_over_three_splits(rt: HostRuntime) -> Result<(), Fail> {
             false,
         ),
     ] {
-        assert_eq!(rt; answer(alloc, &free, parts)?, without_order, "{case}");
-        assert_eq!(rt; answer(alloc, &strict, parts)?, in_order, "{case}, ordered");
+        assert_eq!(rt;
+            answer(alloc, Some(3), false, parts)?,
+            without_order,
+            "{case}"
+        );
+        assert_eq!(rt;
+            answer(alloc, Some(3), true, parts)?,
+            in_order,
+            "{case}, ordered"
+        );
     }
     Ok(())
 }
@@ -139,17 +181,14 @@ fn limits_over_three_splits(rt: HostRuntime) -> Result<(), Fail> {
 #[test]
 fn a_limit_of_no_rows(rt: HostRuntime) -> Result<(), Fail> {
     let alloc = rt.alloc();
-    let nothing = six_rows(alloc, Some(0), true)?;
-    assert!(rt; answer(alloc, &nothing, &[])?);
-    assert!(rt; !answer(alloc, &nothing, &[one(0, 1)])?);
+    assert!(rt; answer(alloc, Some(0), true, &[])?);
+    assert!(rt; !answer(alloc, Some(0), true, &[one(0, 1)])?);
     Ok(())
 }
 
 #[test]
 fn answers_without_a_limit(rt: HostRuntime) -> Result<(), Fail> {
     let alloc = rt.alloc();
-    let free = six_rows(alloc, None, false)?;
-    let strict = six_rows(alloc, None, true)?;
     for (case, parts, without_order, in_order) in [
         ("in order", [FIRST, SECOND, THIRD].as_slice(), true, true),
         ("reversed", [THIRD, SECOND, FIRST].as_slice(), true, false),
@@ -210,16 +249,37 @@ fn answers_without_a_limit(rt: HostRuntime) -> Result<(), Fail> {
             false,
         ),
     ] {
-        assert_eq!(rt; answer(alloc, &free, parts)?, without_order, "{case}");
-        assert_eq!(rt; answer(alloc, &strict, parts)?, in_order, "{case}, ordered");
+        assert_eq!(rt; answer(alloc, None, false, parts)?, without_order, "{case}");
+        assert_eq!(rt;
+            answer(alloc, None, true, parts)?,
+            in_order,
+            "{case}, ordered"
+        );
     }
     Ok(())
+}
+
+fn is_answer_to(
+    alloc: Global,
+    question: &Question,
+    scope: WorkScope,
+    dtype: DType,
+    numbers: &[i128],
+) -> Result<bool, Fail> {
+    let mut batches = Vec::new(alloc);
+    batches.push(batch(alloc, scope, dtype, numbers)?)?;
+    Ok(answers(alloc, question, &batches)?)
+}
+
+// Whether 3 and 4 under this scope and type answer the question for two of six rows.
+fn answers_two(alloc: Global, scope: WorkScope, dtype: DType) -> Result<bool, Fail> {
+    let question = six_rows(alloc, Some(2), false)?;
+    is_answer_to(alloc, &question, scope, dtype, &[3, 4])
 }
 
 #[test]
 fn types_and_scopes_have_to_agree(rt: HostRuntime) -> Result<(), Fail> {
     let alloc = rt.alloc();
-    let question = six_rows(alloc, Some(2), false)?;
     for (case, file_ordinal, end, dtype, want) in [
         ("right", 0, 4, U64, true),
         ("another type", 0, 4, I32_OR_NULL, false),
@@ -230,40 +290,37 @@ fn types_and_scopes_have_to_agree(rt: HostRuntime) -> Result<(), Fail> {
             file_ordinal,
             rows: 2..end,
         };
-        let batches = vec![in alloc; batch(alloc, scope, dtype, &[3, 4])?]?;
-        assert_eq!(rt; answers(alloc, &question, &batches)?, want, "{case}");
+        assert_eq!(rt; answers_two(alloc, scope, dtype)?, want, "{case}");
     }
     Ok(())
 }
 
-// The rows of 3 and null that a filter keeps.
-fn kept(alloc: Global, filter: Filter) -> Result<Vec<PlacedRow>, AllocError> {
-    let request = filtered(filter);
+fn kept_by(alloc: Global, request: &ScanRequest) -> Result<Vec<PlacedRow>, Fail> {
+    let table = table_of(alloc, "qty", I32_OR_NULL, &[3, NULL])?;
+    Ok(chosen_rows(alloc, request, &table)?)
+}
+
+// Those of 3 and null that are above 2.
+fn kept(alloc: Global) -> Result<Vec<PlacedRow>, Fail> {
+    let request = filtered(above(alloc, "qty", I32_OR_NULL, 2)?);
     kept_by(alloc, &request)
 }
 
-fn kept_by(alloc: Global, request: &ScanRequest) -> Result<Vec<PlacedRow>, AllocError> {
-    let table = table_of(alloc, "qty", I32_OR_NULL, &[3, NULL])?;
-    chosen_rows(alloc, request, &table)
-}
-
-// The question for those above 2.
-fn above_two(alloc: Global) -> Result<Question, Fail> {
-    let rows = kept(alloc, above(alloc, "qty", I32_OR_NULL, 2)?)?;
-    Ok(question_of(alloc, I32_OR_NULL, rows, None, false)?)
+// Whether these numbers answer the question for those above 2.
+fn answers_above_two(alloc: Global, numbers: &[i128]) -> Result<bool, Fail> {
+    let question = question_of(alloc, I32_OR_NULL, kept(alloc)?, None, false)?;
+    is_answer_to(alloc, &question, scope(0, 2), I32_OR_NULL, numbers)
 }
 
 #[test]
 fn rows_whose_filter_is_null_are_no_answer(rt: HostRuntime) -> Result<(), Fail> {
     let alloc = rt.alloc();
-    let question = above_two(alloc)?;
     for (case, kept, want) in [
         ("the row that is kept", [3].as_slice(), true),
         ("the null row besides", [3, NULL].as_slice(), false),
         ("the null row alone", [NULL].as_slice(), false),
     ] {
-        let batches = vec![in alloc; batch(alloc, scope(0, 2), I32_OR_NULL, kept)?]?;
-        assert_eq!(rt; answers(alloc, &question, &batches)?, want, "{case}");
+        assert_eq!(rt; answers_above_two(alloc, kept)?, want, "{case}");
     }
     Ok(())
 }

@@ -5,6 +5,7 @@ pub mod Matches
 pub mod Truth
 pub mod Cells
 pub mod Typed
+pub mod Checked
 pub mod Parts
 pub mod ColumnOf
 pub mod Batch

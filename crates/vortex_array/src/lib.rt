@@ -6,6 +6,7 @@ mod arrays;
 mod batch;
 mod column;
 mod filter;
+mod filter_check;
 mod letters;
 mod names;
 mod octets;
@@ -16,6 +17,7 @@ pub use arrays::{Array, LengthMismatch, PrimitiveArray, PrimitiveBuffer, Validit
 pub use batch::RecordBatch;
 pub use column::ColumnDesc;
 pub use filter::{BetweenOptions, CompareOperator, Filter, Operand, StrictComparison};
+pub use filter_check::FilterError;
 pub use names::{Bytes, Name, Text};
 pub use scalar::{Scalar, Value, WrongType};
 pub use types::{BadPrecision, DType, DecimalDType, Nullability, PType};

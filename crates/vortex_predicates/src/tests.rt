@@ -1,0 +1,4 @@
+// Worked cases.
+mod filters;
+mod patterns;
+mod values;

@@ -9,5 +9,6 @@ pub use arrays::{Array, LengthMismatch, PrimitiveArray, PrimitiveBuffer, Validit
 pub use batch::RecordBatch;
 pub use vortex_types::{
     BadPrecision, BetweenOptions, Bytes, ColumnDesc, CompareOperator, DType, DecimalDType, Filter,
-    Name, Nullability, Operand, PType, Scalar, StrictComparison, Text, Value, WrongType,
+    FilterError, Name, Nullability, Operand, PType, Scalar, StrictComparison, Text, Value,
+    WrongType,
 };

@@ -8,3 +8,4 @@ pub mod Cells
 pub mod Typed
 pub mod Seen
 pub mod SameNumber
+pub mod Checked

@@ -4,16 +4,20 @@
 
 mod column;
 mod filter;
+mod filter_check;
 mod letters;
 mod names;
 mod native;
 mod octets;
 mod scalar;
+#[cfg(test)]
+mod tests;
 mod types;
 mod value_ref;
 
 pub use column::ColumnDesc;
 pub use filter::{BetweenOptions, Filter, Operand, StrictComparison};
+pub use filter_check::FilterError;
 pub use names::{Bytes, Name, Text};
 pub use native::{CodeType, NativeValue};
 pub use scalar::{Scalar, Value, WrongType};

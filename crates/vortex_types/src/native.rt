@@ -1,9 +1,9 @@
 // The native types of whole numbers, one trait for the eight widths and one for those of codes.
-ghost use Rattle.std.specs.Prelude.{◌≡◌, ℤ, pos, IfSome, IsTrue, is_some, refl, true};
+ghost use Rattle.std.specs.Prelude.{◌≡◌, ◌&&◌, ℤ, pos, int_le, IfSome, IsTrue, is_some, refl, true};
 ghost use Rattle.std.specs.Bool.{Decides};
 ghost use Rattle.std.specs.Cmp.{signed_Decides};
 ghost use Rattle.vortex_types.specs.Row.{in_width};
-ghost use Rattle.vortex_types.specs.Widths.{has_no_sign};
+ghost use Rattle.vortex_types.specs.Widths.{greatest, has_no_sign, least};
 ghost use Rattle.vortex_types.specs.SameNumber.{same_naturals};
 ghost use Rattle.vortex_types.specs.declared.types.PType.{PType};
 ghost use Rattle.vortex_types.specs.declared.types.PType.TheVariants as widths;
@@ -24,7 +24,8 @@ pub trait NativeValue: Copy + Eq + Hash {
     /// The number of an item, which lies in the width.
     fn value(self) -> i128
         ensures value { result ≡ number self }
-        ensures within { IsTrue (in_width width (number self)) };
+        ensures within { IsTrue (in_width width (number self)) }
+        ensures between { IsTrue (int_le (least width) result && int_le result (greatest width)) };
 
     /// The item of a number, or none exactly where the number is outside the width.
     fn from_value(value: i128) -> Option<Self>

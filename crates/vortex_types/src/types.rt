@@ -115,9 +115,11 @@ impl PType {
         }
     }
 
-    /// Whether the number lies in the width.
+    /// Whether the number lies in the width, which has every number from its least to its greatest.
+    #[tactic(auto, using(crate::proofs::Bounds::in_width_between))]
     pub fn holds(self, number: i128) -> bool
-        ensures { result ≡ in_width self number }
+        ensures within { result ≡ in_width self number }
+        ensures between { result ≡ (int_le (least self) number && int_le number (greatest self)) }
     {
         match self {
             PType::U8 => number >= 0 && number < 256,

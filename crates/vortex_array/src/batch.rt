@@ -2,7 +2,8 @@
 ghost use Rattle.std.specs.Prelude.{◌≡◌, ◌<◌, ◌↔◌, IsTrue, All, IfOk, OnErr, length, slice_get, Some};
 ghost use Rattle.vortex_array.specs.Batch.{HasRows};
 
-use crate::arrays::{Array, LengthMismatch};
+use crate::arrays::Array;
+use crate::validity::LengthMismatch;
 use std::marker::Model;
 
 /// Some rows in columns of one length. Without columns the number of rows stands by itself.

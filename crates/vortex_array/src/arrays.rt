@@ -5,11 +5,11 @@ ghost use Rattle.vortex_types.specs.Row.{fits_type};
 ghost use Rattle.vortex_types.specs.Seen.{value_seen};
 ghost use Rattle.vortex_array.specs.ColumnOf.{column_of, is_plain as is_plain_array, nullable_column};
 
-use crate::bools::BoolArray;
-use crate::constant::ConstantArray;
-use crate::decimal::DecimalArray;
-use crate::primitive::PrimitiveArray;
-use crate::var_bin::VarBinViewArray;
+use vortex_columns::BoolArray;
+use vortex_columns::ConstantArray;
+use vortex_columns::DecimalArray;
+use vortex_columns::PrimitiveArray;
+use vortex_columns::VarBinViewArray;
 use std::alloc::{AllocError, Global};
 use vortex_buffer::Mask;
 use vortex_types::{DType, Scalar, ValueRef};

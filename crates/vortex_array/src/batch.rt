@@ -3,7 +3,7 @@ ghost use Rattle.std.specs.Prelude.{◌≡◌, ◌<◌, ◌↔◌, IsTrue, All, 
 ghost use Rattle.vortex_array.specs.Batch.{HasRows};
 
 use crate::arrays::Array;
-use crate::validity::LengthMismatch;
+use vortex_columns::LengthMismatch;
 use std::marker::Model;
 
 /// Some rows in columns of one length. Without columns the number of rows stands by itself.

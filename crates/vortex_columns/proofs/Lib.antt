@@ -1,3 +1,2 @@
-pub mod PieceLemmas
 pub mod RowLemmas
 pub mod ByteRows

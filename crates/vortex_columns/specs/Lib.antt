@@ -1,5 +1,4 @@
 pub mod Parts
-pub mod Pieces
 pub mod Validities
 pub mod Numbers
 pub mod Kinds

@@ -1,6 +1,7 @@
 -- Which rows are not null.
-use Rattle.std.specs.Prelude.{ℕ, ◌==◌, Bool, true, false, List, length, map, cond, Option, Some, None, slice_index_or, replicate}
+use Rattle.std.specs.Prelude.{ℕ, ◌==◌, Bool, true, false, List, length, map, Option, Some, None, slice_index_or, replicate}
 use Rattle.std.specs.Simd.Lanes.{zip2}
+pub use Rattle.vortex_rows.specs.Rows.{row_of}
 use Rattle.vortex_types.specs.declared.types.Nullability.{Nullability}
 use Rattle.vortex_types.specs.declared.types.Nullability.TheVariants.{NonNullable as WithoutNulls, Nullable}
 use Rattle.vortex_columns.specs.declared.validity.Validity.{Validity}
@@ -12,10 +13,6 @@ nullability_of NonNullable = WithoutNulls
 nullability_of AllValid = Nullable
 nullability_of AllInvalid = Nullable
 nullability_of (Bits bits) = Nullable
-
--- the value where it is present, else null
-abbrev pub row_of : {X : Type 0} → X → Bool → Option X
-row_of value present = cond present (Some value) None
 
 -- the values as rows: null where the validity says so
 abbrev pub rows_under : {X : Type 0} → Validity → List X → List (Option X)

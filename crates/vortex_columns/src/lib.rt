@@ -3,7 +3,6 @@
 #![tactic(auto)]
 
 mod bools;
-mod byte_lists;
 mod constant;
 mod decimal;
 mod primitive;

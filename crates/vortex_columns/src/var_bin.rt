@@ -8,7 +8,7 @@ ghost use Rattle.vortex_columns.specs.Kinds.{nullable_column};
 ghost use Rattle.vortex_columns.specs.Pushed.{Admits, Refuses};
 ghost use Rattle.vortex_columns.specs.declared.var_bin.PushError.TheVariants.{NotUtf8};
 
-use crate::byte_lists::ByteLists;
+use vortex_rows::ByteLists;
 use crate::validity::row_if;
 use std::alloc::{AllocError, Global};
 use std::marker::Model;

@@ -5,10 +5,14 @@
 mod arrays;
 mod batch;
 
-pub use arrays::{Array, LengthMismatch, PrimitiveArray, PrimitiveBuffer, Validity};
+pub use arrays::Array;
 pub use batch::RecordBatch;
+pub use vortex_columns::{
+    BoolArray, ConstantArray, DecimalArray, DecimalBuffer, DecimalValue, LengthMismatch,
+    PrimitiveArray, PrimitiveBuffer, PushError, Validity, VarBinViewArray, VarBinViewBuilder,
+};
 pub use vortex_types::{
-    BadPrecision, BetweenOptions, Bytes, ColumnDesc, CompareOperator, DType, DecimalDType, Filter,
-    FilterError, Name, Nullability, Operand, PType, Scalar, StrictComparison, Text, Value,
-    WrongType,
+    BadPrecision, BetweenOptions, Bytes, CodeType, ColumnDesc, CompareOperator, DType,
+    DecimalDType, Filter, FilterError, Name, NativeValue, Nullability, Operand, PType, Scalar,
+    StrictComparison, Text, Value, ValueRef, WrongType,
 };

@@ -1,0 +1,6 @@
+pub mod Parts
+pub mod Validities
+pub mod Numbers
+pub mod Kinds
+pub mod ByteRows
+pub mod Pushed

@@ -1,0 +1,5 @@
+pub mod Kept
+pub mod Slices
+pub mod Taken
+pub mod KeptWords
+pub mod Pieces

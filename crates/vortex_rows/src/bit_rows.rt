@@ -1,0 +1,162 @@
+// Parts of a list of bits, the bits that a mask keeps, and the bits at places.
+ghost use Rattle.std.specs.Prelude.{◌≡◌, ◌<◌, ◌≤◌, true, false, cond, All, IfOk, length, map, slice_index_or, slice_range};
+ghost use Rattle.vortex_buffer.specs.Mask.{mask_bits};
+ghost use Rattle.vortex_rows.specs.Kept.{kept_by};
+ghost use Rattle.vortex_rows.specs.Taken.{SetPlacesBelow, taken_or};
+
+use crate::kept_items::filter_items;
+use std::alloc::Global;
+use vortex_buffer::{AllocError, BitBuffer, Mask};
+use vortex_compute::{IndexedSource, collect_bits, collect_lane_bits};
+
+// A part of the bits of a buffer, as lanes.
+#[derive(Clone, Copy)]
+struct BitRange<'a> {
+    bits: &'a BitBuffer,
+    start: usize,
+    end: usize,
+    ghost order: { start ≤ end },
+    ghost within: { end ≤ length bits.now },
+}
+
+impl IndexedSource for BitRange<'_> {
+    type Item = bool;
+
+    ghost lanes = { λ s. slice_range s.bits.now s.start s.end };
+
+    #[inline(always)]
+    fn len(&self) -> usize {
+        self.end - self.start
+    }
+
+    #[inline(always)]
+    fn get(&self, i: usize) -> bool {
+        self.bits.value(self.start + i)
+    }
+}
+
+// The bits at places, as lanes.
+#[derive(Clone, Copy)]
+struct BitsAt<'a> {
+    bits: &'a BitBuffer,
+    places: &'a [usize],
+    ghost within: { All (λ place. place < length bits.now) places.now },
+}
+
+impl IndexedSource for BitsAt<'_> {
+    type Item = bool;
+
+    ghost lanes = { λ s. map (λ place. slice_index_or s.bits.now place false) s.places.now };
+
+    #[inline(always)]
+    fn len(&self) -> usize {
+        self.places.len()
+    }
+
+    #[inline(always)]
+    fn get(&self, i: usize) -> bool {
+        let place = self.places[i];
+        self.bits.value(place)
+    }
+}
+
+// The bits at the places whose own bit is set, as lanes. Any other lane is not set.
+#[derive(Clone, Copy)]
+struct BitsAtOr<'a> {
+    bits: &'a BitBuffer,
+    places: &'a [usize],
+    valid: &'a BitBuffer,
+    ghost same_length: { length places.now ≡ length valid.now },
+    ghost within: { SetPlacesBelow (length bits.now) places.now valid.now },
+}
+
+impl IndexedSource for BitsAtOr<'_> {
+    type Item = bool;
+
+    ghost lanes = { λ s. taken_or false s.bits.now s.places.now s.valid.now };
+
+    #[inline(always)]
+    fn len(&self) -> usize {
+        self.places.len()
+    }
+
+    #[inline(always)]
+    fn get(&self, i: usize) -> bool {
+        bit_or_unset(self.bits, self.places[i], self.valid.value(i))
+    }
+}
+
+// The bit at a place that is valid, else one that is not set.
+#[inline(always)]
+fn bit_or_unset(bits: &BitBuffer, place: usize, valid: bool) -> bool
+    requires within { valid ≡ true → place < length bits.now }
+    ensures { result ≡ cond valid (slice_index_or bits.now place false) false }
+{
+    valid && bits.value(place)
+}
+
+/// The bits from `start` up to `end`, without it.
+pub fn slice_bits(
+    alloc: Global,
+    bits: &BitBuffer,
+    start: usize,
+    end: usize,
+) -> Result<BitBuffer, AllocError>
+    requires order { start ≤ end }
+    requires within { end ≤ length bits.now }
+    ensures ok { IfOk result (λ part. part ≡ slice_range bits.now start end) }
+{
+    let part = collect_lane_bits(alloc, &BitRange { bits, start, end }, |bit: bool| bit)?;
+    Ok(part)
+}
+
+/// The bits whose bit is set in the mask, in their order.
+pub fn filter_bits(alloc: Global, bits: &BitBuffer, mask: &Mask) -> Result<BitBuffer, AllocError>
+    requires same_length { length (mask_bits mask.now) ≡ length bits.now }
+    ensures ok { IfOk result (λ kept. kept ≡ kept_by (mask_bits mask.now) bits.now) }
+{
+    let truths = truths_of(alloc, bits)?;
+    let kept = filter_items(alloc, &truths, mask)?;
+    let packed = collect_bits(alloc, kept.as_slice(), |bit: bool| bit)?;
+    Ok(packed)
+}
+
+// The bits, one truth each.
+fn truths_of(alloc: Global, bits: &BitBuffer) -> Result<Vec<bool>, AllocError>
+    ensures ok { IfOk result (λ truths. truths.items ≡ bits.now) }
+{
+    let mut truths = Vec::with_capacity(alloc, bits.len())?;
+    for i in 0..bits.len() {
+        truths.push(bits.value(i))?;
+    }
+    Ok(truths)
+}
+
+/// The bits at the places, in the order of the places. A place may come again.
+pub fn take_bits(alloc: Global, bits: &BitBuffer, places: &[usize]) -> Result<BitBuffer, AllocError>
+    requires within { All (λ place. place < length bits.now) places.now }
+    ensures ok { IfOk result (λ taken. taken ≡ map (λ place. slice_index_or bits.now place false) places.now) }
+{
+    let taken = collect_lane_bits(alloc, &BitsAt { bits, places }, |bit: bool| bit)?;
+    Ok(taken)
+}
+
+/// The bits at the places whose own bit is set; the others' are not set. A place whose bit is not set may be any number.
+pub fn take_bits_or(
+    alloc: Global,
+    bits: &BitBuffer,
+    places: &[usize],
+    valid: &BitBuffer,
+) -> Result<BitBuffer, AllocError>
+    requires same_length { length places.now ≡ length valid.now }
+    requires within { SetPlacesBelow (length bits.now) places.now valid.now }
+    ensures ok { IfOk result (λ taken. taken ≡ taken_or false bits.now places.now valid.now) }
+{
+    let lanes = BitsAtOr {
+        bits,
+        places,
+        valid,
+    };
+    let taken = collect_lane_bits(alloc, &lanes, |bit: bool| bit)?;
+    Ok(taken)
+}

@@ -10,3 +10,6 @@ pub use bit_rows::{filter_bits, slice_bits, take_bits, take_bits_or};
 pub use byte_lists::ByteLists;
 pub use items::{slice_items, take_items, take_items_or};
 pub use kept_items::filter_items;
+
+#[cfg(test)]
+mod tests;

@@ -1,4 +1,4 @@
-use Rattle.std.proofs.Common.{arith, ◌<◌, ◌∙◌, ap, sym, false, get_or, length, map}
+use Rattle.std.proofs.Common.{◌<◌, ◌∙◌, ap, sym, false, get_or, length}
 use Rattle.std.proofs.lemmas.List.{length-map}
 use Rattle.vortex_rows.proofs.Taken.{place_below, mapped_at}
 use Rattle.vortex_rows.proofs.bit_rows.BitsAtIndexedSource.get.Goals as goal

@@ -48,7 +48,7 @@ fn numbers(alloc: Global, len: usize) -> Result<Vec<u64>, AllocError> {
 fn places(alloc: Global, count: usize) -> Result<Vec<u8>, AllocError> {
     let mut places = Vec::with_capacity(alloc, count)?;
     for i in 0..count {
-        places.push((i.wrapping_mul(37) % count) as u8)?;
+        places.push((i.wrapping_mul(37) % count.min(256)) as u8)?;
     }
     Ok(places)
 }

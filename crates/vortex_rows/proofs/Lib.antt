@@ -3,3 +3,4 @@ pub mod Slices
 pub mod Taken
 pub mod KeptWords
 pub mod Pieces
+pub mod Ordered

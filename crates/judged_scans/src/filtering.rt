@@ -1,7 +1,7 @@
 // What filters say of rows, and which requests are valid.
 use crate::cases::{
-    I32_OR_NULL, NULL, TEXT, U64, above, boxed, cell, cells, column, constant, filtered, name,
-    one_column, push_column, text,
+    I32_OR_NULL, NULL, TEXT, U64, above, boxed, cell, cells, column, constant, filtered, let_go,
+    name, one_column, push_column, text,
 };
 use std::alloc::{AllocError, Global};
 use std::test::Fail;
@@ -337,7 +337,9 @@ fn both(alloc: Global, left: &str, right: &str) -> Result<Filter, Fail> {
 // Whether the first unknown name of a filter on these two columns, over the column `a`, is this one.
 fn names_first(alloc: Global, left: &str, right: &str, want: &str) -> Result<bool, Fail> {
     let request = filtered(both(alloc, left, right)?);
-    is_first_unknown(alloc, &request, want)
+    let holds = is_first_unknown(alloc, &request, want);
+    let_go(request);
+    holds
 }
 
 #[test]
@@ -379,7 +381,9 @@ fn unknown_in_both(alloc: Global) -> Result<ScanRequest, Fail> {
 
 fn projection_comes_first(alloc: Global) -> Result<bool, Fail> {
     let request = unknown_in_both(alloc)?;
-    is_first_unknown(alloc, &request, "zz")
+    let holds = is_first_unknown(alloc, &request, "zz");
+    let_go(request);
+    holds
 }
 
 #[test]

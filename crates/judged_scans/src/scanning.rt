@@ -4,7 +4,7 @@ ghost use Rattle.std.specs.List.{AllZip};
 ghost use Rattle.vortex_table.specs.Given.{contents_of};
 ghost use Rattle.vortex_table.specs.Table.{FitsPartition};
 
-use crate::cases::{U64, cells, compare, filtered, one_column, scope};
+use crate::cases::{U64, cells, compare, filtered, let_go, one_column, scope};
 use std::alloc::{AllocError, Global};
 use std::test::Fail;
 use vortex_array::{Array, ColumnDesc, CompareOperator, PrimitiveArray, PrimitiveBuffer, Validity};
@@ -320,7 +320,9 @@ fn comparing(
 // The question for the numbers above 1 of `UNEVEN_SPLITS`, in order.
 fn above_one(alloc: Global) -> Result<Question, Fail> {
     let request = comparing(alloc, CompareOperator::Gt, 1, true)?;
-    question_of(alloc, &UNEVEN_SPLITS, &request)
+    let question = question_of(alloc, &UNEVEN_SPLITS, &request);
+    let_go(request);
+    question
 }
 
 fn answer_above_one(alloc: Global, parts: &[Rows]) -> Result<bool, Fail> {
@@ -420,7 +422,9 @@ fn is_answered(alloc: Global, stored: &Stored, request: &ScanRequest) -> Result<
 fn is_whole_answered(alloc: Global, stored: &Stored, ordered: bool) -> Result<bool, Fail> {
     let mut request = ScanRequest::default();
     request.ordered = ordered;
-    is_answered(alloc, stored, &request)
+    let holds = is_answered(alloc, stored, &request);
+    let_go(request);
+    holds
 }
 
 fn is_comparison_answered(
@@ -431,7 +435,9 @@ fn is_comparison_answered(
     number: u64,
 ) -> Result<bool, Fail> {
     let request = comparing(alloc, operator, number, ordered)?;
-    is_answered(alloc, stored, &request)
+    let holds = is_answered(alloc, stored, &request);
+    let_go(request);
+    holds
 }
 
 fn is_operator_answered(
@@ -528,7 +534,9 @@ fn is_not_built_for(alloc: Global, stored: &Stored, request: &ScanRequest) -> Re
 }
 
 fn is_not_built(alloc: Global, stored: &Stored, request: ScanRequest) -> Result<bool, Fail> {
-    is_not_built_for(alloc, stored, &request)
+    let holds = is_not_built_for(alloc, stored, &request);
+    let_go(request);
+    holds
 }
 
 fn limited() -> ScanRequest {
@@ -583,7 +591,9 @@ fn is_refused_by(
 // Whether the scan for the numbers 1 of a column that is not there is refused by its name.
 fn is_unknown(alloc: Global, stored: &Stored, column: &str) -> Result<bool, Fail> {
     let request = filtered(compare(alloc, CompareOperator::Eq, column, U64, 1)?);
-    is_refused_by(alloc, stored, &request, column)
+    let holds = is_refused_by(alloc, stored, &request, column);
+    let_go(request);
+    holds
 }
 
 #[test]

@@ -1,6 +1,6 @@
 // Which rows requests choose.
 use crate::cases::{
-    I32_OR_NULL, NULL, U64, above, boxed, column, constant, filtered, have_numbers, let_go, name,
+    I32_OR_NULL, NULL, U64, above, boxed, column, constant, filtered, have_numbers, name,
     one_column, rows_of, scope, table_of,
 };
 use std::alloc::{AllocError, Global};
@@ -63,7 +63,7 @@ fn are_kept_by(alloc: Global, request: &ScanRequest, want: &[i128]) -> Result<bo
 fn keeps(alloc: Global, filter: Result<Filter, Fail>, want: &[i128]) -> Result<bool, Fail> {
     let request = filtered(filter?);
     let holds = are_kept_by(alloc, &request, want);
-    let_go(request);
+    drop(request);
     holds
 }
 
@@ -162,7 +162,7 @@ fn chooses_rows(
 ) -> Result<bool, Fail> {
     let request = rows_at(bounds, selection_of(alloc, places)?);
     let holds = are_chosen_of_three(alloc, &request, want);
-    let_go(request);
+    drop(request);
     holds
 }
 
@@ -261,7 +261,7 @@ fn chooses_places(
 ) -> Result<bool, Fail> {
     let request = partitions_at(bounds, selection_of(alloc, places)?);
     let holds = are_places_of_three(alloc, &request, want);
-    let_go(request);
+    drop(request);
     holds
 }
 
@@ -311,7 +311,7 @@ fn rows_for(alloc: Global, request: &ScanRequest) -> Result<Vec<PlacedRow>, Allo
 fn rows_under(alloc: Global, names: Vec<Name>) -> Result<Vec<PlacedRow>, AllocError> {
     let request = projected(names);
     let rows = rows_for(alloc, &request);
-    let_go(request);
+    drop(request);
     rows
 }
 

@@ -1,5 +1,5 @@
 // Which batches are answers.
-use crate::cases::{I32_OR_NULL, NULL, U64, above, cells, filtered, let_go, scope, table_of};
+use crate::cases::{I32_OR_NULL, NULL, U64, above, cells, filtered, scope, table_of};
 use std::alloc::{AllocError, Global};
 use std::test::Fail;
 use vortex_array::DType;
@@ -38,7 +38,7 @@ fn question_of(
 fn all_rows(alloc: Global, table: &PlainTable) -> Result<Vec<PlacedRow>, AllocError> {
     let request = ScanRequest::default();
     let rows = chosen_rows(alloc, &request, table);
-    let_go(request);
+    drop(request);
     rows
 }
 
@@ -306,7 +306,7 @@ fn kept_by(alloc: Global, request: &ScanRequest) -> Result<Vec<PlacedRow>, Fail>
 fn kept(alloc: Global) -> Result<Vec<PlacedRow>, Fail> {
     let request = filtered(above(alloc, "qty", I32_OR_NULL, 2)?);
     let rows = kept_by(alloc, &request);
-    let_go(request);
+    drop(request);
     rows
 }
 

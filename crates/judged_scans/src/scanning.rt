@@ -4,7 +4,7 @@ ghost use Rattle.std.specs.List.{AllZip};
 ghost use Rattle.vortex_table.specs.Given.{contents_of};
 ghost use Rattle.vortex_table.specs.Table.{FitsPartition};
 
-use crate::cases::{U64, cells, compare, filtered, let_go, one_column, scope};
+use crate::cases::{U64, cells, compare, filtered, one_column, scope};
 use std::alloc::{AllocError, Global};
 use std::test::Fail;
 use vortex_array::{Array, ColumnDesc, CompareOperator, PrimitiveArray, PrimitiveBuffer, Validity};
@@ -321,7 +321,7 @@ fn comparing(
 fn above_one(alloc: Global) -> Result<Question, Fail> {
     let request = comparing(alloc, CompareOperator::Gt, 1, true)?;
     let question = question_of(alloc, &UNEVEN_SPLITS, &request);
-    let_go(request);
+    drop(request);
     question
 }
 
@@ -423,7 +423,7 @@ fn is_whole_answered(alloc: Global, stored: &Stored, ordered: bool) -> Result<bo
     let mut request = ScanRequest::default();
     request.ordered = ordered;
     let holds = is_answered(alloc, stored, &request);
-    let_go(request);
+    drop(request);
     holds
 }
 
@@ -436,7 +436,7 @@ fn is_comparison_answered(
 ) -> Result<bool, Fail> {
     let request = comparing(alloc, operator, number, ordered)?;
     let holds = is_answered(alloc, stored, &request);
-    let_go(request);
+    drop(request);
     holds
 }
 
@@ -535,7 +535,7 @@ fn is_not_built_for(alloc: Global, stored: &Stored, request: &ScanRequest) -> Re
 
 fn is_not_built(alloc: Global, stored: &Stored, request: ScanRequest) -> Result<bool, Fail> {
     let holds = is_not_built_for(alloc, stored, &request);
-    let_go(request);
+    drop(request);
     holds
 }
 
@@ -557,17 +557,29 @@ fn projected(alloc: Global) -> ScanRequest {
     request
 }
 
+fn partitions_are_refused(alloc: Global) -> Result<bool, Fail> {
+    is_not_built(alloc, &TWO_PARTITIONS, ScanRequest::default())
+}
+
+fn limits_are_refused(alloc: Global) -> Result<bool, Fail> {
+    is_not_built(alloc, &ONE_SPLIT, limited())
+}
+
+fn ranges_are_refused(alloc: Global) -> Result<bool, Fail> {
+    is_not_built(alloc, &ONE_SPLIT, ranged())
+}
+
+fn projections_are_refused(alloc: Global) -> Result<bool, Fail> {
+    is_not_built(alloc, &ONE_SPLIT, projected(alloc))
+}
+
 #[test]
 fn forms_that_are_not_built_are_refused(rt: HostRuntime) -> Result<(), Fail> {
     let alloc = rt.alloc();
-    let whole = is_not_built(alloc, &TWO_PARTITIONS, ScanRequest::default())?;
-    assert!(rt; whole, "two partitions");
-    assert!(rt; is_not_built(alloc, &ONE_SPLIT, limited())?, "a limit");
-    assert!(rt; is_not_built(alloc, &ONE_SPLIT, ranged())?, "a range");
-    assert!(rt;
-        is_not_built(alloc, &ONE_SPLIT, projected(alloc))?,
-        "a projection"
-    );
+    assert!(rt; partitions_are_refused(alloc)?, "two partitions");
+    assert!(rt; limits_are_refused(alloc)?, "a limit");
+    assert!(rt; ranges_are_refused(alloc)?, "a range");
+    assert!(rt; projections_are_refused(alloc)?, "a projection");
     Ok(())
 }
 
@@ -592,7 +604,7 @@ fn is_refused_by(
 fn is_unknown(alloc: Global, stored: &Stored, column: &str) -> Result<bool, Fail> {
     let request = filtered(compare(alloc, CompareOperator::Eq, column, U64, 1)?);
     let holds = is_refused_by(alloc, stored, &request, column);
-    let_go(request);
+    drop(request);
     holds
 }
 

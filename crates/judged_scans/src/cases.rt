@@ -1,7 +1,8 @@
 // What the cases share: columns, filters, rows and tables of one column.
 //
 // A test holds no filter, request, table or question beside a `?`, since each way out of a function lets go of all that
-// it holds, and the proof goes through each: small functions own these values, and a test sees what they say of them.
+// it holds, and the proof goes through each part of it: small functions own these values, and a test sees what they say
+// of them. Filters and requests are let go of by a call of `drop`, whose proof is one for all callers.
 use sqlite_items::Boxed;
 use std::alloc::{AllocError, Global};
 use std::test::Fail;

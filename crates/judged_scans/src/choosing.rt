@@ -62,7 +62,9 @@ fn are_kept_by(alloc: Global, request: &ScanRequest, want: &[i128]) -> Result<bo
 // Whether a filter keeps these of 3, null and 1. It comes as it was made, so that no test holds a filter.
 fn keeps(alloc: Global, filter: Result<Filter, Fail>, want: &[i128]) -> Result<bool, Fail> {
     let request = filtered(filter?);
-    are_kept_by(alloc, &request, want)
+    let holds = are_kept_by(alloc, &request, want);
+    drop(request);
+    holds
 }
 
 fn is_big(alloc: Global) -> Result<Filter, Fail> {
@@ -159,7 +161,9 @@ fn chooses_rows(
     want: &[i128],
 ) -> Result<bool, Fail> {
     let request = rows_at(bounds, selection_of(alloc, places)?);
-    are_chosen_of_three(alloc, &request, want)
+    let holds = are_chosen_of_three(alloc, &request, want);
+    drop(request);
+    holds
 }
 
 #[test]
@@ -256,7 +260,9 @@ fn chooses_places(
     want: &[(u64, u64)],
 ) -> Result<bool, Fail> {
     let request = partitions_at(bounds, selection_of(alloc, places)?);
-    are_places_of_three(alloc, &request, want)
+    let holds = are_places_of_three(alloc, &request, want);
+    drop(request);
+    holds
 }
 
 #[test]
@@ -304,7 +310,9 @@ fn rows_for(alloc: Global, request: &ScanRequest) -> Result<Vec<PlacedRow>, Allo
 // The rows 1, 2 and 3 under these names.
 fn rows_under(alloc: Global, names: Vec<Name>) -> Result<Vec<PlacedRow>, AllocError> {
     let request = projected(names);
-    rows_for(alloc, &request)
+    let rows = rows_for(alloc, &request);
+    drop(request);
+    rows
 }
 
 fn a_twice(alloc: Global) -> Result<Vec<Name>, AllocError> {

@@ -157,7 +157,9 @@ fn truth_between(
     upper: i128,
 ) -> Result<Option<bool>, Fail> {
     let filter = between(alloc, lower, upper)?;
-    truth_at(alloc, &filter, number)
+    let truth = truth_at(alloc, &filter, number);
+    drop(filter);
+    truth
 }
 
 #[test]
@@ -210,7 +212,9 @@ fn truth_at_price(alloc: Global, filter: &Filter, number: i128) -> Result<Option
 // The truth of a number's being at most -7 hundredths.
 fn truth_of_price(alloc: Global, number: i128) -> Result<Option<bool>, Fail> {
     let filter = is_cheap(alloc, 2, -7)?;
-    truth_at_price(alloc, &filter, number)
+    let truth = truth_at_price(alloc, &filter, number);
+    drop(filter);
+    truth
 }
 
 #[test]
@@ -231,7 +235,9 @@ fn meets_rules_of_prices(alloc: Global, filter: &Option<Filter>) -> Result<bool,
 // Whether hundredths may be compared with a decimal of so many digits behind the point.
 fn is_scale_typed(alloc: Global, scale: i8) -> Result<bool, Fail> {
     let filter = Some(is_cheap(alloc, scale, -7)?);
-    meets_rules_of_prices(alloc, &filter)
+    let holds = meets_rules_of_prices(alloc, &filter);
+    drop(filter);
+    holds
 }
 
 #[test]
@@ -256,7 +262,9 @@ fn meets_rules(alloc: Global, filter: &Option<Filter>) -> Result<bool, Fail> {
 // Whether a filter on a number `a` and a text `t` meets the type rules. It comes as it was made, so that no test holds it.
 fn is_typed(alloc: Global, filter: Result<Filter, Fail>) -> Result<bool, Fail> {
     let filter = Some(filter?);
-    meets_rules(alloc, &filter)
+    let holds = meets_rules(alloc, &filter);
+    drop(filter);
+    holds
 }
 
 // Whether the column matches any text.
@@ -304,6 +312,12 @@ fn rules_of_types(rt: HostRuntime) -> Result<(), Fail> {
     ] {
         assert_eq!(rt; is_width_typed(alloc, width, nullability)?, want, "{case}");
     }
+    Ok(())
+}
+
+#[test]
+fn rules_of_types_of_truths_and_parts(rt: HostRuntime) -> Result<(), Fail> {
+    let alloc = rt.alloc();
     assert!(rt; !is_typed(alloc, truth(alloc))?, "a number alone");
     assert!(rt; !is_typed(alloc, part_breaks_a_rule(alloc))?, "in a part");
     Ok(())
@@ -337,7 +351,9 @@ fn both(alloc: Global, left: &str, right: &str) -> Result<Filter, Fail> {
 // Whether the first unknown name of a filter on these two columns, over the column `a`, is this one.
 fn names_first(alloc: Global, left: &str, right: &str, want: &str) -> Result<bool, Fail> {
     let request = filtered(both(alloc, left, right)?);
-    is_first_unknown(alloc, &request, want)
+    let holds = is_first_unknown(alloc, &request, want);
+    drop(request);
+    holds
 }
 
 #[test]
@@ -379,7 +395,9 @@ fn unknown_in_both(alloc: Global) -> Result<ScanRequest, Fail> {
 
 fn projection_comes_first(alloc: Global) -> Result<bool, Fail> {
     let request = unknown_in_both(alloc)?;
-    is_first_unknown(alloc, &request, "zz")
+    let holds = is_first_unknown(alloc, &request, "zz");
+    drop(request);
+    holds
 }
 
 #[test]

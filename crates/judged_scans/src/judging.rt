@@ -37,7 +37,9 @@ fn question_of(
 
 fn all_rows(alloc: Global, table: &PlainTable) -> Result<Vec<PlacedRow>, AllocError> {
     let request = ScanRequest::default();
-    chosen_rows(alloc, &request, table)
+    let rows = chosen_rows(alloc, &request, table);
+    drop(request);
+    rows
 }
 
 // The rows 1 to 6.
@@ -303,7 +305,9 @@ fn kept_by(alloc: Global, request: &ScanRequest) -> Result<Vec<PlacedRow>, Fail>
 // Those of 3 and null that are above 2.
 fn kept(alloc: Global) -> Result<Vec<PlacedRow>, Fail> {
     let request = filtered(above(alloc, "qty", I32_OR_NULL, 2)?);
-    kept_by(alloc, &request)
+    let rows = kept_by(alloc, &request);
+    drop(request);
+    rows
 }
 
 // Whether these numbers answer the question for those above 2.

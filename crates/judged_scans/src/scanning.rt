@@ -320,7 +320,9 @@ fn comparing(
 // The question for the numbers above 1 of `UNEVEN_SPLITS`, in order.
 fn above_one(alloc: Global) -> Result<Question, Fail> {
     let request = comparing(alloc, CompareOperator::Gt, 1, true)?;
-    question_of(alloc, &UNEVEN_SPLITS, &request)
+    let question = question_of(alloc, &UNEVEN_SPLITS, &request);
+    drop(request);
+    question
 }
 
 fn answer_above_one(alloc: Global, parts: &[Rows]) -> Result<bool, Fail> {
@@ -420,7 +422,9 @@ fn is_answered(alloc: Global, stored: &Stored, request: &ScanRequest) -> Result<
 fn is_whole_answered(alloc: Global, stored: &Stored, ordered: bool) -> Result<bool, Fail> {
     let mut request = ScanRequest::default();
     request.ordered = ordered;
-    is_answered(alloc, stored, &request)
+    let holds = is_answered(alloc, stored, &request);
+    drop(request);
+    holds
 }
 
 fn is_comparison_answered(
@@ -431,7 +435,9 @@ fn is_comparison_answered(
     number: u64,
 ) -> Result<bool, Fail> {
     let request = comparing(alloc, operator, number, ordered)?;
-    is_answered(alloc, stored, &request)
+    let holds = is_answered(alloc, stored, &request);
+    drop(request);
+    holds
 }
 
 fn is_operator_answered(
@@ -528,7 +534,9 @@ fn is_not_built_for(alloc: Global, stored: &Stored, request: &ScanRequest) -> Re
 }
 
 fn is_not_built(alloc: Global, stored: &Stored, request: ScanRequest) -> Result<bool, Fail> {
-    is_not_built_for(alloc, stored, &request)
+    let holds = is_not_built_for(alloc, stored, &request);
+    drop(request);
+    holds
 }
 
 fn limited() -> ScanRequest {
@@ -549,17 +557,29 @@ fn projected(alloc: Global) -> ScanRequest {
     request
 }
 
+fn partitions_are_refused(alloc: Global) -> Result<bool, Fail> {
+    is_not_built(alloc, &TWO_PARTITIONS, ScanRequest::default())
+}
+
+fn limits_are_refused(alloc: Global) -> Result<bool, Fail> {
+    is_not_built(alloc, &ONE_SPLIT, limited())
+}
+
+fn ranges_are_refused(alloc: Global) -> Result<bool, Fail> {
+    is_not_built(alloc, &ONE_SPLIT, ranged())
+}
+
+fn projections_are_refused(alloc: Global) -> Result<bool, Fail> {
+    is_not_built(alloc, &ONE_SPLIT, projected(alloc))
+}
+
 #[test]
 fn forms_that_are_not_built_are_refused(rt: HostRuntime) -> Result<(), Fail> {
     let alloc = rt.alloc();
-    let whole = is_not_built(alloc, &TWO_PARTITIONS, ScanRequest::default())?;
-    assert!(rt; whole, "two partitions");
-    assert!(rt; is_not_built(alloc, &ONE_SPLIT, limited())?, "a limit");
-    assert!(rt; is_not_built(alloc, &ONE_SPLIT, ranged())?, "a range");
-    assert!(rt;
-        is_not_built(alloc, &ONE_SPLIT, projected(alloc))?,
-        "a projection"
-    );
+    assert!(rt; partitions_are_refused(alloc)?, "two partitions");
+    assert!(rt; limits_are_refused(alloc)?, "a limit");
+    assert!(rt; ranges_are_refused(alloc)?, "a range");
+    assert!(rt; projections_are_refused(alloc)?, "a projection");
     Ok(())
 }
 
@@ -583,7 +603,9 @@ fn is_refused_by(
 // Whether the scan for the numbers 1 of a column that is not there is refused by its name.
 fn is_unknown(alloc: Global, stored: &Stored, column: &str) -> Result<bool, Fail> {
     let request = filtered(compare(alloc, CompareOperator::Eq, column, U64, 1)?);
-    is_refused_by(alloc, stored, &request, column)
+    let holds = is_refused_by(alloc, stored, &request, column);
+    drop(request);
+    holds
 }
 
 #[test]

@@ -68,22 +68,23 @@ fn what_a_check_tells_of_a_filter_and_of_its_copy(rt: HostRuntime) -> Result<(),
     Ok(())
 }
 
-// Whether the filter can be asked of rows of a number `n`, a text `t` and a truth value `b`.
-fn can_be_asked(alloc: Global, filter: Filter) -> Result<bool, Fail> {
-    let columns = vec![in alloc;
-        ColumnDesc {
-            name: Name::from_str(alloc, "n")?,
-            dtype: NUMBER,
-        },
-        ColumnDesc {
-            name: Name::from_str(alloc, "t")?,
-            dtype: DType::Utf8(Nullability::Nullable),
-        },
-        ColumnDesc {
-            name: Name::from_str(alloc, "b")?,
-            dtype: DType::Bool(Nullability::Nullable),
-        },
-    ]?;
+// A number `n`, a text `t` and a truth value `b`.
+fn three_columns(alloc: Global) -> Result<Vec<ColumnDesc>, Fail> {
+    let mut columns = Vec::new(alloc);
+    for (name, dtype) in [
+        ("n", NUMBER),
+        ("t", DType::Utf8(Nullability::Nullable)),
+        ("b", DType::Bool(Nullability::Nullable)),
+    ] {
+        let name = Name::from_str(alloc, name)?;
+        columns.push(ColumnDesc { name, dtype })?;
+    }
+    Ok(columns)
+}
+
+// Whether the filter can be asked of rows of the three columns.
+fn can_be_asked(alloc: Global, filter: &Filter) -> Result<bool, Fail> {
+    let columns = three_columns(alloc)?;
     Ok(filter.check(alloc, &columns).is_ok())
 }
 
@@ -98,67 +99,68 @@ fn text(alloc: Global, text: &str) -> Result<Operand, Fail> {
     Ok(Operand::Constant(scalar))
 }
 
-// Whether a column lies between two others.
-fn between(alloc: Global, name: &str, lower: &str, upper: &str) -> Result<Filter, Fail> {
+// Whether a column can be asked for its truth.
+fn has_truth(alloc: Global, name: &str) -> Result<bool, Fail> {
+    can_be_asked(alloc, &Filter::Truth(column(alloc, name)?))
+}
+
+// Whether a column can be asked for null.
+fn has_nulls(alloc: Global, name: &str) -> Result<bool, Fail> {
+    can_be_asked(alloc, &Filter::IsNull(column(alloc, name)?))
+}
+
+// Whether a column can be matched with a constant pattern.
+fn has_likeness(alloc: Global, name: &str) -> Result<bool, Fail> {
+    let column = column(alloc, name)?;
+    let pattern = text(alloc, "a%")?;
+    can_be_asked(alloc, &Filter::Like(column, pattern))
+}
+
+// Whether a constant text can be matched with a column.
+fn is_pattern(alloc: Global, name: &str) -> Result<bool, Fail> {
+    let text = text(alloc, "a")?;
+    let column = column(alloc, name)?;
+    can_be_asked(alloc, &Filter::Like(text, column))
+}
+
+// Whether a column can be compared with two others.
+fn has_bounds(alloc: Global, name: &str, lower: &str, upper: &str) -> Result<bool, Fail> {
     let options = BetweenOptions {
         lower_strict: StrictComparison::Strict,
         upper_strict: StrictComparison::NonStrict,
     };
-    Ok(Filter::Between(
-        options,
-        column(alloc, name)?,
-        column(alloc, lower)?,
-        column(alloc, upper)?,
-    ))
+    let column_between = column(alloc, name)?;
+    let lower = column(alloc, lower)?;
+    let upper = column(alloc, upper)?;
+    can_be_asked(
+        alloc,
+        &Filter::Between(options, column_between, lower, upper),
+    )
 }
 
 #[test]
 fn type_rules_of_filters(rt: HostRuntime) -> Result<(), Fail> {
     let alloc = rt.alloc();
     for (case, answer, want) in [
-        (
-            "a truth value",
-            can_be_asked(alloc, Filter::Truth(column(alloc, "b")?))?,
-            true,
-        ),
-        (
-            "a number alone",
-            can_be_asked(alloc, Filter::Truth(column(alloc, "n")?))?,
-            false,
-        ),
-        (
-            "null of any type",
-            can_be_asked(alloc, Filter::IsNull(column(alloc, "n")?))?,
-            true,
-        ),
-        (
-            "a text and a pattern",
-            can_be_asked(alloc, Filter::Like(column(alloc, "t")?, text(alloc, "a%")?))?,
-            true,
-        ),
-        (
-            "a pattern that is a column",
-            can_be_asked(alloc, Filter::Like(text(alloc, "a")?, column(alloc, "t")?))?,
-            false,
-        ),
-        (
-            "a number and a pattern",
-            can_be_asked(alloc, Filter::Like(column(alloc, "n")?, text(alloc, "a%")?))?,
-            false,
-        ),
+        ("a truth value", has_truth(alloc, "b")?, true),
+        ("a number alone", has_truth(alloc, "n")?, false),
+        ("null of any type", has_nulls(alloc, "n")?, true),
+        ("a text and a pattern", has_likeness(alloc, "t")?, true),
+        ("a number and a pattern", has_likeness(alloc, "n")?, false),
+        ("a pattern that is a column", is_pattern(alloc, "t")?, false),
         (
             "bounds of one type",
-            can_be_asked(alloc, between(alloc, "n", "n", "n")?)?,
+            has_bounds(alloc, "n", "n", "n")?,
             true,
         ),
         (
             "a lower bound of another",
-            can_be_asked(alloc, between(alloc, "n", "t", "n")?)?,
+            has_bounds(alloc, "n", "t", "n")?,
             false,
         ),
         (
             "an upper bound of another",
-            can_be_asked(alloc, between(alloc, "n", "n", "t")?)?,
+            has_bounds(alloc, "n", "n", "t")?,
             false,
         ),
     ] {

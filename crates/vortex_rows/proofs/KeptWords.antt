@@ -147,7 +147,7 @@ pack_more word group room i count bit x within space read is so_far =
     ∙ sym (ap (kept_in word) next ∙ kept_in-push word (take i group) x)
 
 -- the first n + m of a list in two parts
-take-add : {X : Type 0} (n m : ℕ) (xs : List X) → take (n + m) xs ≡ take n xs ++ take m (drop n xs)
+pub take-add : {X : Type 0} (n m : ℕ) (xs : List X) → take (n + m) xs ≡ take n xs ++ take m (drop n xs)
 take-add n m xs =
     let n_le : n ≤ n + m = omega arith in
     sym (take-append-drop n (take (n + m) xs))
@@ -162,7 +162,7 @@ word_below bits k n is =
     rw reach at (mask_l-lt (take 64 (drop (64 * k) bits)))
 
 -- what word k keeps of its group of items is what its bits keep
-kept_group : {X : Type 0} (bits : List Bool) (items : List X) (k : ℕ) → length bits ≡ length items → kept_in (word_of bits k) (take 64 (drop (64 * k) items)) ≡ kept_by (take 64 (drop (64 * k) bits)) (take 64 (drop (64 * k) items))
+pub kept_group : {X : Type 0} (bits : List Bool) (items : List X) (k : ℕ) → length bits ≡ length items → kept_in (word_of bits k) (take 64 (drop (64 * k) items)) ≡ kept_by (take 64 (drop (64 * k) bits)) (take 64 (drop (64 * k) items))
 unfolding word_of
 kept_group bits items k same =
     kept_in-mask (take 64 (drop (64 * k) bits)) (take 64 (drop (64 * k) items))

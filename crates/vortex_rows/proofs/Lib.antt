@@ -4,3 +4,4 @@ pub mod Taken
 pub mod KeptWords
 pub mod Pieces
 pub mod Ordered
+pub mod PackedBits

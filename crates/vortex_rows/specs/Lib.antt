@@ -3,3 +3,4 @@ pub mod Taken
 pub mod Rows
 pub mod Pieces
 pub mod Orders
+pub mod Packs

@@ -1,14 +1,11 @@
-// Parts of a list of bits, the bits that a mask keeps, and the bits at places.
+// Parts of a list of bits, and the bits at places.
 ghost use Rattle.std.specs.Prelude.{◌≡◌, ◌<◌, ◌≤◌, true, false, cond, All, IfOk, length, map, slice_index_or, slice_range};
-ghost use Rattle.vortex_buffer.specs.Mask.{mask_bits};
-ghost use Rattle.vortex_rows.specs.Kept.{kept_by};
 ghost use Rattle.vortex_rows.specs.Taken.{SetPlacesBelow, taken_or};
 
-use crate::kept_items::filter_items;
 use crate::places::Place;
 use std::alloc::Global;
-use vortex_buffer::{AllocError, BitBuffer, Mask};
-use vortex_compute::{IndexedSource, collect_bits, collect_lane_bits};
+use vortex_buffer::{AllocError, BitBuffer};
+use vortex_compute::{IndexedSource, collect_lane_bits};
 
 // A part of the bits of a buffer, as lanes.
 #[derive(Clone, Copy)]
@@ -109,28 +106,6 @@ pub fn slice_bits(
 {
     let part = collect_lane_bits(alloc, &BitRange { bits, start, end }, |bit: bool| bit)?;
     Ok(part)
-}
-
-/// The bits whose bit is set in the mask, in their order.
-pub fn filter_bits(alloc: Global, bits: &BitBuffer, mask: &Mask) -> Result<BitBuffer, AllocError>
-    requires same_length { length (mask_bits mask.now) ≡ length bits.now }
-    ensures ok { IfOk result (λ kept. kept ≡ kept_by (mask_bits mask.now) bits.now) }
-{
-    let truths = truths_of(alloc, bits)?;
-    let kept = filter_items(alloc, &truths, mask)?;
-    let packed = collect_bits(alloc, kept.as_slice(), |bit: bool| bit)?;
-    Ok(packed)
-}
-
-// The bits, one truth each.
-fn truths_of(alloc: Global, bits: &BitBuffer) -> Result<Vec<bool>, AllocError>
-    ensures ok { IfOk result (λ truths. truths.items ≡ bits.now) }
-{
-    let mut truths = Vec::with_capacity(alloc, bits.len())?;
-    for i in 0..bits.len() {
-        truths.push(bits.value(i))?;
-    }
-    Ok(truths)
 }
 
 /// The bits at the places, in the order of the places. A place may come again.

@@ -1,2 +1,4 @@
 pub mod RowLemmas
 pub mod ByteRows
+pub mod SelectedRows
+pub mod TakenRows

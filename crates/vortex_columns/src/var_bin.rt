@@ -3,7 +3,7 @@ ghost use Rattle.std.specs.Prelude.{◌≡◌, ◌<◌, ◌==◌, ◌++◌, ◌�
 ghost use Rattle.vortex_buffer.specs.Mask.{mask_bits};
 ghost use Rattle.vortex_types.specs.Row.{fits_type};
 ghost use Rattle.vortex_types.specs.Seen.{value_seen};
-ghost use Rattle.vortex_columns.specs.ByteRows.{bytes_value, is_bytes_type, is_text_type};
+ghost use Rattle.vortex_columns.specs.ByteRows.{HoldsBytes, bytes_rows, bytes_value, is_bytes_type, is_text_type};
 ghost use Rattle.vortex_columns.specs.Kinds.{nullable_column};
 ghost use Rattle.vortex_columns.specs.Pushed.{Admits, Refuses};
 ghost use Rattle.vortex_columns.specs.declared.var_bin.PushError.TheVariants.{NotUtf8};
@@ -167,6 +167,28 @@ impl VarBinViewArray {
             lists,
             present,
         })
+    }
+}
+
+impl VarBinViewArray {
+    // The lists of bytes, and which of them are present.
+    pub(crate) fn parts(&self) -> (&ByteLists, &[bool])
+        ensures rows { self.now.rows ≡ bytes_rows self.now.dtype result.0.now result.1.now }
+        ensures holds { HoldsBytes self.now.dtype result.0.now result.1.now }
+    {
+        (&self.lists, self.present.as_slice())
+    }
+
+    // The column of these lists of bytes.
+    pub(crate) fn from_parts(dtype: DType, lists: ByteLists, present: Vec<bool>) -> VarBinViewArray
+        requires { HoldsBytes dtype lists present.items }
+        ensures { result ≡ record { dtype = dtype; rows = bytes_rows dtype lists present.items } }
+    {
+        VarBinViewArray {
+            dtype,
+            lists,
+            present,
+        }
     }
 }
 

@@ -5,6 +5,7 @@ ghost use Rattle.vortex_rows.specs.Kept.{kept_by};
 ghost use Rattle.vortex_rows.specs.Taken.{SetPlacesBelow, taken_or};
 
 use crate::kept_items::filter_items;
+use crate::places::Place;
 use std::alloc::Global;
 use vortex_buffer::{AllocError, BitBuffer, Mask};
 use vortex_compute::{IndexedSource, collect_bits, collect_lane_bits};
@@ -36,17 +37,17 @@ impl IndexedSource for BitRange<'_> {
 }
 
 // The bits at places, as lanes.
-#[derive(Clone, Copy)]
-struct BitsAt<'a> {
+#[derive(Drop)]
+struct BitsAt<'a, P: Place> {
     bits: &'a BitBuffer,
-    places: &'a [usize],
-    ghost within: { All (λ place. place < length bits.now) places.now },
+    places: &'a [P],
+    ghost within: { All (λ place. place < length bits.now) (map P.place places.now) },
 }
 
-impl IndexedSource for BitsAt<'_> {
+impl<P: Place> IndexedSource for BitsAt<'_, P> {
     type Item = bool;
 
-    ghost lanes = { λ s. map (λ place. slice_index_or s.bits.now place false) s.places.now };
+    ghost lanes = { λ s. map (λ place. slice_index_or s.bits.now place false) (map P.place s.places.now) };
 
     #[inline(always)]
     fn len(&self) -> usize {
@@ -56,24 +57,24 @@ impl IndexedSource for BitsAt<'_> {
     #[inline(always)]
     fn get(&self, i: usize) -> bool {
         let place = self.places[i];
-        self.bits.value(place)
+        self.bits.value(place.place())
     }
 }
 
 // The bits at the places whose own bit is set, as lanes. Any other lane is not set.
-#[derive(Clone, Copy)]
-struct BitsAtOr<'a> {
+#[derive(Drop)]
+struct BitsAtOr<'a, P: Place> {
     bits: &'a BitBuffer,
-    places: &'a [usize],
+    places: &'a [P],
     valid: &'a BitBuffer,
     ghost same_length: { length places.now ≡ length valid.now },
-    ghost within: { SetPlacesBelow (length bits.now) places.now valid.now },
+    ghost within: { SetPlacesBelow (length bits.now) (map P.place places.now) valid.now },
 }
 
-impl IndexedSource for BitsAtOr<'_> {
+impl<P: Place> IndexedSource for BitsAtOr<'_, P> {
     type Item = bool;
 
-    ghost lanes = { λ s. taken_or false s.bits.now s.places.now s.valid.now };
+    ghost lanes = { λ s. taken_or false s.bits.now (map P.place s.places.now) s.valid.now };
 
     #[inline(always)]
     fn len(&self) -> usize {
@@ -88,11 +89,11 @@ impl IndexedSource for BitsAtOr<'_> {
 
 // The bit at a place that is valid, else one that is not set.
 #[inline(always)]
-fn bit_or_unset(bits: &BitBuffer, place: usize, valid: bool) -> bool
-    requires within { valid ≡ true → place < length bits.now }
-    ensures { result ≡ cond valid (slice_index_or bits.now place false) false }
+fn bit_or_unset<P: Place>(bits: &BitBuffer, place: P, valid: bool) -> bool
+    requires within { valid ≡ true → P.place place < length bits.now }
+    ensures { result ≡ cond valid (slice_index_or bits.now (P.place place) false) false }
 {
-    valid && bits.value(place)
+    valid && bits.value(place.place())
 }
 
 /// The bits from `start` up to `end`, without it.
@@ -133,24 +134,28 @@ fn truths_of(alloc: Global, bits: &BitBuffer) -> Result<Vec<bool>, AllocError>
 }
 
 /// The bits at the places, in the order of the places. A place may come again.
-pub fn take_bits(alloc: Global, bits: &BitBuffer, places: &[usize]) -> Result<BitBuffer, AllocError>
-    requires within { All (λ place. place < length bits.now) places.now }
-    ensures ok { IfOk result (λ taken. taken ≡ map (λ place. slice_index_or bits.now place false) places.now) }
+pub fn take_bits<P: Place>(
+    alloc: Global,
+    bits: &BitBuffer,
+    places: &[P],
+) -> Result<BitBuffer, AllocError>
+    requires within { All (λ place. place < length bits.now) (map P.place places.now) }
+    ensures ok { IfOk result (λ taken. taken ≡ map (λ place. slice_index_or bits.now place false) (map P.place places.now)) }
 {
     let taken = collect_lane_bits(alloc, &BitsAt { bits, places }, |bit: bool| bit)?;
     Ok(taken)
 }
 
 /// The bits at the places whose own bit is set; the others' are not set. A place whose bit is not set may be any number.
-pub fn take_bits_or(
+pub fn take_bits_or<P: Place>(
     alloc: Global,
     bits: &BitBuffer,
-    places: &[usize],
+    places: &[P],
     valid: &BitBuffer,
 ) -> Result<BitBuffer, AllocError>
     requires same_length { length places.now ≡ length valid.now }
-    requires within { SetPlacesBelow (length bits.now) places.now valid.now }
-    ensures ok { IfOk result (λ taken. taken ≡ taken_or false bits.now places.now valid.now) }
+    requires within { SetPlacesBelow (length bits.now) (map P.place places.now) valid.now }
+    ensures ok { IfOk result (λ taken. taken ≡ taken_or false bits.now (map P.place places.now) valid.now) }
 {
     let lanes = BitsAtOr {
         bits,

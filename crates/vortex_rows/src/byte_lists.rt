@@ -1,12 +1,14 @@
 // Lists of bytes, as texts and binary values are, one after another in one buffer.
-ghost use Rattle.std.specs.Prelude.{◌≡◌, ◌==◌, ◌<◌, ◌≤◌, ◌-◌, ◌++◌, ◌∷◌, [], All, EachIndex, List, ℕ, cond, length, map, IfOk, OnOk, OnErr, slice_index, slice_index_or, slice_range};
+ghost use Rattle.std.specs.Prelude.{◌≡◌, ◌==◌, ◌<◌, ◌≤◌, ◌-◌, ◌++◌, ◌∷◌, [], All, EachIndex, List, ℕ, true, cond, length, map, IfOk, OnOk, OnErr, slice_index, slice_index_or, slice_range};
 ghost use Rattle.vortex_buffer.specs.Mask.{mask_bits};
 ghost use Rattle.vortex_rows.specs.Kept.{kept_by};
 ghost use Rattle.vortex_rows.specs.Pieces.{pieces, IsChain, start_at};
+ghost use Rattle.vortex_rows.specs.Taken.{SetPlacesBelow, taken_or};
 
+use crate::places::Place;
 use std::alloc::Global;
 use std::marker::Model;
-use vortex_buffer::{AllocError, Mask};
+use vortex_buffer::{AllocError, BitBuffer, Mask};
 
 /// Lists of bytes, one after another in one buffer. Contracts see the list of them.
 #[derive(Drop)]
@@ -93,13 +95,32 @@ impl ByteLists {
     }
 
     /// The lists at the places, in the order of the places. A place may come again.
-    pub fn take(&self, alloc: Global, places: &[usize]) -> Result<ByteLists, AllocError>
-        requires within { All (λ place. place < length self.now) places.now }
-        ensures ok { IfOk result (λ taken. taken ≡ map (λ place. slice_index_or self.now place []) places.now) }
+    pub fn take<P: Place>(&self, alloc: Global, places: &[P]) -> Result<ByteLists, AllocError>
+        requires within { All (λ place. place < length self.now) (map P.place places.now) }
+        ensures ok { IfOk result (λ taken. taken ≡ map (λ place. slice_index_or self.now place []) (map P.place places.now)) }
     {
         let mut taken = ByteLists::new(alloc);
         for place in places {
-            taken.push(self.get(*place))?;
+            taken.push(self.get(place.place()))?;
+        }
+        Ok(taken)
+    }
+
+    /// The lists at the places whose bit is set, and the empty list in the others' rows. A place whose bit is not set may
+    /// be any number.
+    pub fn take_or<P: Place>(
+        &self,
+        alloc: Global,
+        places: &[P],
+        valid: &BitBuffer,
+    ) -> Result<ByteLists, AllocError>
+        requires same_length { length places.now ≡ length valid.now }
+        requires within { SetPlacesBelow (length self.now) (map P.place places.now) valid.now }
+        ensures ok { IfOk result (λ taken. taken ≡ taken_or [] self.now (map P.place places.now) valid.now) }
+    {
+        let mut taken = ByteLists::new(alloc);
+        for i in 0..places.len() {
+            taken.push(list_or_empty(self, places[i], valid.value(i)))?;
         }
         Ok(taken)
     }
@@ -113,6 +134,14 @@ impl ByteLists {
             ends: Vec::from_slice(alloc, &self.ends)?,
         })
     }
+}
+
+// The list at a place that is valid, else the empty list.
+fn list_or_empty<P: Place>(lists: &ByteLists, place: P, valid: bool) -> &[u8]
+    requires within { valid ≡ true → P.place place < length lists.now }
+    ensures { result.now ≡ cond valid (slice_index_or lists.now (P.place place) []) [] }
+{
+    if valid { lists.get(place.place()) } else { &[] }
 }
 
 // Puts a list of bytes behind the others where its bit is set.

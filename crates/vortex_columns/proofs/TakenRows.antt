@@ -2,7 +2,7 @@
 use Rattle.std.proofs.Common.{ℕ, zero, suc, ◌<◌, ◌≡◌, Bool, true, false, cond, List, [], ◌∷◌, length, get_or, map, replicate, refl, sym, ap, ◌∙◌, arith, Option, Some, None, eq-eqb}
 use Rattle.std.specs.Prelude.{pos, IsTrue, All}
 use Rattle.std.specs.Simd.Lanes.{zip2}
-use Rattle.std.proofs.lemmas.List.{length-map}
+use Rattle.std.proofs.lemmas.List.{length-map, length-replicate}
 use Rattle.std.proofs.lemmas.Simd.{length-zip2}
 use Rattle.vortex_types.specs.Row.{is_nullable}
 use Rattle.vortex_types.specs.Widths.{nullable_form}
@@ -12,9 +12,10 @@ use Rattle.vortex_types.specs.declared.types.Nullability.TheVariants as nulls
 use Rattle.vortex_types.specs.declared.scalar.Value.{Value}
 use Rattle.vortex_types.specs.declared.scalar.Value.TheVariants as value
 use Rattle.vortex_rows.specs.Taken.{SetPlacesBelow, taken_or}
+use Rattle.vortex_rows.proofs.Taken.{length-taken_or, taken_or-map}
 use Rattle.vortex_columns.specs.Validities.{row_of, rows_under, is_as_long, valid_at, nullability_of, nullable_validity}
 use Rattle.vortex_columns.specs.Selected.{IndexBelow, row_at, taken}
-use Rattle.vortex_columns.specs.SelectedParts.{CoversPlaces, PlacesBelow, index_column, taken_validity, taken_values, valid_at_places, valid_where_set}
+use Rattle.vortex_columns.specs.SelectedParts.{CoversAll, CoversPlaces, CoversSet, PlacesBelow, index_column, taken_validity, taken_values, valid_at_places, valid_where_set}
 use Rattle.vortex_columns.specs.declared.validity.Validity.{Validity}
 use Rattle.vortex_columns.specs.declared.validity.Validity.TheVariants.{NonNullable, AllValid, AllInvalid, Bits}
 use Rattle.vortex_columns.proofs.RowLemmas.{row-at}
@@ -22,7 +23,7 @@ use Rattle.vortex_columns.proofs.SelectedRows.{bits-long, column_with, same-colu
 
 -- the rows of indices at places
 abbrev index_rows : Validity → List ℕ → List (Option Value)
-index_rows w places = rows_under w (map (λ n. value.Int n) (map (λ i. pos i) places))
+index_rows w places = rows_under w (map (λ i. value.Int (pos i)) places)
 
 -- what indices ask for, where each is there
 at_places : (rows : List (Option Value)) (places : List ℕ) → map (row_at rows) (index_rows AllValid places) ≡ map (λ i. get_or rows i None) places
@@ -153,7 +154,7 @@ taken_nulls t (Bits set) v places h = ap t (nulls_where set places v) ∙ sym (h
 pub taken-column : {X : Type 0} (t : Nullability → DType) (f : X → Value) (d : X) (w v : Validity) (xs : List X) (places : List ℕ)
     → ((n : Nullability) → nullable_form (t n) ≡ t nulls.Nullable) → IsTrue (is_as_long v (length xs)) → IsTrue (is_as_long w (length places)) → PlacesBelow (length xs) w places
     → column_with (t (nullability_of (taken_validity w places v))) (rows_under (taken_validity w places v) (map f (taken_values d w xs places)))
-      ≡ taken (index_column w (map (λ i. pos i) places)) (column_with (t (nullability_of v)) (rows_under v (map f xs)))
+      ≡ taken (index_column w places) (column_with (t (nullability_of v)) (rows_under v (map f xs)))
 taken-column t f d w v xs places h e l b = same-column _ _ _ _ (taken_nulls t w v places h) (taken_rows f d w v xs places e l b)
 
 below_valid : (n : ℕ) (places : List ℕ) → All (IndexBelow n) (index_rows AllValid places) → All (λ i. i < n) places
@@ -169,18 +170,30 @@ below_set n (p ∷ places) (false ∷ set) same h zero l e = absurd (cc e)
 below_set n (p ∷ places) (b ∷ set) same h (suc k) l e = below_set n places set (omega (arith, same)) (λ i d m. h (suc i) d (omega (arith, m))) k (omega (arith, l)) e
 
 -- indices below n have places below n
-pub places-below : (n : ℕ) (w : Validity) (places : List ℕ) → IsTrue (is_as_long w (length places)) → All (IndexBelow n) (index_column w (map (λ i. pos i) places)).rows → PlacesBelow n w places
+pub places-below : (n : ℕ) (w : Validity) (places : List ℕ) → IsTrue (is_as_long w (length places)) → All (IndexBelow n) (index_column w places).rows → PlacesBelow n w places
 places-below n NonNullable places l h = below_valid n places h
 places-below n AllValid places l h = below_valid n places h
 places-below n AllInvalid places l h = tt
 places-below n (Bits set) places l h = below_set n places set (bits-long set (length places) l) h
 
 -- and a validity of n rows covers them
+covers_all : (v : Validity) (n : ℕ) (places : List ℕ) → IsTrue (is_as_long v n) → All (λ i. i < n) places → CoversAll v places
+covers_all NonNullable n places e h = tt
+covers_all AllValid n places e h = tt
+covers_all AllInvalid n places e h = tt
+covers_all (Bits bits) n places e h = rw (bits-long bits n e) h
+
+covers_set : (v : Validity) (n : ℕ) (places : List ℕ) (set : List Bool) → IsTrue (is_as_long v n) → SetPlacesBelow n places set → CoversSet v set places
+covers_set NonNullable n places set e h = tt
+covers_set AllValid n places set e h = tt
+covers_set AllInvalid n places set e h = tt
+covers_set (Bits bits) n places set e h = rw (bits-long bits n e) h
+
 pub covers-places : (v w : Validity) (n : ℕ) (places : List ℕ) → IsTrue (is_as_long v n) → PlacesBelow n w places → CoversPlaces v w places
-covers-places NonNullable w n places e h = tt
-covers-places AllValid w n places e h = tt
-covers-places AllInvalid w n places e h = tt
-covers-places (Bits bits) w n places e h = rw (bits-long bits n e) h
+covers-places v NonNullable n places e h = covers_all v n places e h
+covers-places v AllValid n places e h = covers_all v n places e h
+covers-places v AllInvalid n places e h = tt
+covers-places v (Bits set) n places e h = covers_set v n places set e h
 
 -- the validity at places is as long as they are
 pub taken-long : (w v : Validity) (places : List ℕ) (k : ℕ) → IsTrue (is_as_long w (length places)) → k ≡ length places → IsTrue (is_as_long (taken_validity w places v) k)
@@ -206,3 +219,31 @@ taken-long (Bits set) v places k l is = long_where v places k is (bits-long set 
     long_where AllValid places k is same = eq-eqb (length set) k (same ∙ sym is)
     long_where AllInvalid places k is same = refl
     long_where (Bits bits) places k is same = eq-eqb _ k (length-zip2 (λ place bit. cond bit (get_or bits place false) false) places set (sym same) ∙ sym is)
+
+-- an item of a map, past the end too
+get_or-map_any : {X Y : Type 0} (f : X → Y) (xs : List X) (i : ℕ) (d : X) → get_or (map f xs) i (f d) ≡ f (get_or xs i d)
+get_or-map_any f [] i d = refl
+get_or-map_any f (x ∷ xs) zero d = refl
+get_or-map_any f (x ∷ xs) (suc i) d = get_or-map_any f xs i d
+
+-- what is taken of a map is the map of what is taken
+map_at : {X Y : Type 0} (f : X → Y) (d : X) (items : List X) (places : List ℕ) → map f (map (λ i. get_or items i d) places) ≡ map (λ i. get_or (map f items) i (f d)) places
+map_at f d items [] = refl
+map_at f d items (i ∷ places) = ap (λ y. y ∷ map f (map (λ k. get_or items k d) places)) (sym (get_or-map_any f items i d)) ∙ ap (λ ys. get_or (map f items) i (f d) ∷ ys) (map_at f d items places)
+
+map_equal : {X Y : Type 0} (f : X → Y) (n : ℕ) (d : X) → map f (replicate n d) ≡ replicate n (f d)
+map_equal f zero d = refl
+map_equal f (suc n) d = ap (λ ys. f d ∷ ys) (map_equal f n d)
+
+pub taken_values-map : {X Y : Type 0} (f : X → Y) (d : X) (w : Validity) (items : List X) (places : List ℕ) → map f (taken_values d w items places) ≡ taken_values (f d) w (map f items) places
+taken_values-map f d NonNullable items places = map_at f d items places
+taken_values-map f d AllValid items places = map_at f d items places
+taken_values-map f d AllInvalid items places = map_equal f (length places) d
+taken_values-map f d (Bits set) items places = sym (taken_or-map f d items places set)
+
+-- as many are taken as there are places
+pub length-taken_values : {X : Type 0} (d : X) (w : Validity) (items : List X) (places : List ℕ) → IsTrue (is_as_long w (length places)) → length (taken_values d w items places) ≡ length places
+length-taken_values d NonNullable items places l = length-map places _
+length-taken_values d AllValid items places l = length-map places _
+length-taken_values d AllInvalid items places l = length-replicate (length places) d
+length-taken_values d (Bits set) items places l = length-taken_or d items places set (sym (bits-long set (length places) l))

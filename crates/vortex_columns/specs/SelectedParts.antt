@@ -1,6 +1,8 @@
 -- What parts of a column are made of: its validity, its values, and the places of indices.
-use Rattle.std.specs.Prelude.{ℕ, ◌<◌, ◌≤◌, ℤ, Bool, false, List, map, length, replicate, All, slice_index_or, slice_range}
-use Rattle.vortex_types.specs.Row.{Column}
+use Rattle.std.specs.Prelude.{ℕ, ◌<◌, ◌≤◌, pos, Bool, true, false, cond, List, [], map, length, replicate, All, slice_index_or, slice_range}
+use Rattle.vortex_types.specs.Row.{Column, is_nullable}
+use Rattle.vortex_types.specs.Widths.{nullable_form}
+use Rattle.vortex_types.specs.declared.types.DType.{DType}
 use Rattle.vortex_types.specs.declared.types.DType.TheVariants as dtype
 use Rattle.vortex_types.specs.declared.types.PType.TheVariants as width
 use Rattle.vortex_types.specs.declared.scalar.Value.TheVariants as value
@@ -29,12 +31,16 @@ kept_validity set NonNullable = NonNullable
 kept_validity set AllValid = AllValid
 kept_validity set AllInvalid = AllInvalid
 
--- the indices as a column: numbers, of which the validity says which are null
-abbrev pub index_column : Validity → List ℤ → Column
-index_column nulls numbers = record {
+-- places as a column of indices, of which the validity says which are null
+abbrev pub index_column : Validity → List ℕ → Column
+index_column nulls places = record {
   dtype = dtype.Primitive width.U64 (nullability_of nulls);
-  rows = rows_under nulls (map (λ n. value.Int n) numbers);
+  rows = rows_under nulls (map (λ place. value.Int (pos place)) places);
 }
+
+-- the type of rows that are taken at places: with nulls where either has them
+abbrev pub taken_type : Validity → DType → DType
+taken_type nulls t = cond (is_nullable (index_column nulls []).dtype) (nullable_form t) t
 
 -- each place that is not null is below n
 abbrev pub PlacesBelow : ℕ → Validity → List ℕ → Type 0
@@ -71,7 +77,26 @@ taken_validity AllValid places validity = nullable_validity (valid_at_places pla
 taken_validity AllInvalid places validity = AllInvalid
 taken_validity (Bits set) places validity = valid_where_set set places validity
 
--- the validity says which rows at such places are null
+-- the validity says which rows at places are null
+abbrev pub CoversAll : Validity → List ℕ → Type 0
+CoversAll (Bits bits) places = All (λ place. place < length bits) places
+CoversAll _ places = Unit
+
+-- and so at places whose bit is set
+abbrev pub CoversSet : Validity → List Bool → List ℕ → Type 0
+CoversSet (Bits bits) set places = SetPlacesBelow (length bits) places set
+CoversSet _ set places = Unit
+
+-- and so at places that are not null
 abbrev pub CoversPlaces : Validity → Validity → List ℕ → Type 0
-CoversPlaces (Bits bits) nulls places = PlacesBelow (length bits) nulls places
-CoversPlaces _ nulls places = Unit
+CoversPlaces validity NonNullable places = CoversAll validity places
+CoversPlaces validity AllValid places = CoversAll validity places
+CoversPlaces validity AllInvalid places = Unit
+CoversPlaces validity (Bits set) places = CoversSet validity set places
+
+-- the validity has no null
+abbrev pub has_none : Validity → Bool
+has_none NonNullable = true
+has_none AllValid = true
+has_none AllInvalid = false
+has_none (Bits bits) = false

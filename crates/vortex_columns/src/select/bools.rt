@@ -1,13 +1,17 @@
 // Parts of columns of truth values.
-ghost use Rattle.std.specs.Prelude.{◌≡◌, ◌≤◌, IfOk, length};
+ghost use Rattle.std.specs.Prelude.{◌≡◌, ◌≤◌, false, IfOk, IsTrue, length, map};
 ghost use Rattle.vortex_buffer.specs.Mask.{mask_bits};
 ghost use Rattle.vortex_columns.specs.Kinds.{bool_column};
-ghost use Rattle.vortex_columns.specs.Selected.{filtered, sliced};
+ghost use Rattle.vortex_columns.specs.Selected.{filtered, sliced, taken};
+ghost use Rattle.vortex_columns.specs.SelectedParts.{PlacesBelow, index_column};
+ghost use Rattle.vortex_columns.specs.Validities.{is_as_long};
 
 use crate::bools::BoolArray;
+use crate::select::validities::take_bits_under;
+use crate::validity::Validity;
 use std::alloc::{AllocError, Global};
 use vortex_buffer::Mask;
-use vortex_rows::{filter_bits, slice_bits};
+use vortex_rows::{Place, filter_bits, slice_bits};
 
 impl BoolArray {
     /// The rows from `start` up to `end`, without it.
@@ -33,6 +37,26 @@ impl BoolArray {
         let bits = filter_bits(alloc, self.bits(), mask)?;
         match BoolArray::try_new(bits, validity) {
             Ok(kept) => Ok(kept),
+            Err(_) => unreachable!(),
+        }
+    }
+
+    /// The rows at the places, in the order of the places; null where a place is null. A place may come again, and one
+    /// that is null may be any number.
+    pub fn take<P: Place>(
+        &self,
+        alloc: Global,
+        places: &[P],
+        nulls: &Validity,
+    ) -> Result<BoolArray, AllocError>
+        requires long { IsTrue (is_as_long nulls.now (length places.now)) }
+        requires within { PlacesBelow (length (bool_column self.now).rows) nulls.now (map P.place places.now) }
+        ensures { IfOk result (λ part. bool_column part ≡ taken (index_column nulls.now (map P.place places.now)) (bool_column self.now)) }
+    {
+        let validity = self.validity().take(alloc, places, nulls)?;
+        let bits = take_bits_under(alloc, self.bits(), places, nulls)?;
+        match BoolArray::try_new(bits, validity) {
+            Ok(part) => Ok(part),
             Err(_) => unreachable!(),
         }
     }

@@ -1,13 +1,17 @@
 // Parts of columns of decimals. Each pass is generic over the width.
-ghost use Rattle.std.specs.Prelude.{◌≡◌, ◌≤◌, IfOk, length, map, slice_range};
+ghost use Rattle.std.specs.Prelude.{◌≡◌, ◌≤◌, IfOk, IsTrue, length, map, pos, slice_range};
 ghost use Rattle.vortex_buffer.specs.Mask.{mask_bits};
 ghost use Rattle.vortex_columns.specs.Kinds.{decimal_column, unscaled_of};
-ghost use Rattle.vortex_columns.specs.Selected.{filtered, kept_by, sliced};
+ghost use Rattle.vortex_columns.specs.Selected.{filtered, kept_by, sliced, taken};
+ghost use Rattle.vortex_columns.specs.SelectedParts.{PlacesBelow, index_column, taken_values};
+ghost use Rattle.vortex_columns.specs.Validities.{is_as_long};
 
 use crate::decimal::{DecimalArray, DecimalBuffer, DecimalValue};
+use crate::select::validities::take_values;
+use crate::validity::Validity;
 use std::alloc::{AllocError, Global};
 use vortex_buffer::{Buffer, Mask};
-use vortex_rows::{filter_items, slice_items};
+use vortex_rows::{Place, filter_items, slice_items};
 
 // A native type of unscaled numbers, and how they are a buffer.
 trait DecimalWidth: DecimalValue {
@@ -84,6 +88,22 @@ fn filter_unscaled<T: DecimalWidth>(
     Ok(T::wrap(kept))
 }
 
+// The numbers at places, and the default where a place is null.
+fn take_unscaled<T: DecimalWidth, P: Place>(
+    alloc: Global,
+    items: &Buffer<T>,
+    places: &[P],
+    nulls: &Validity,
+    default: T,
+) -> Result<DecimalBuffer, AllocError>
+    requires long { IsTrue (is_as_long nulls.now (length places.now)) }
+    requires within { PlacesBelow (length (map T.unscaled items.now)) nulls.now (map P.place places.now) }
+    ensures { IfOk result (λ b. unscaled_of b ≡ taken_values (T.unscaled default) nulls.now (map T.unscaled items.now) (map P.place places.now)) }
+{
+    let taken = take_values(alloc, items.as_slice(), places, nulls, default)?;
+    Ok(T::wrap(taken))
+}
+
 impl DecimalBuffer {
     /// The numbers from `start` up to `end`, without it.
     pub fn slice(&self, alloc: Global, start: usize, end: usize) -> Result<DecimalBuffer, AllocError>
@@ -113,6 +133,26 @@ impl DecimalBuffer {
             DecimalBuffer::I128(values) => filter_unscaled(alloc, values, mask),
         }
     }
+
+    /// The numbers at the places, and 0 where a place is null.
+    pub fn take<P: Place>(
+        &self,
+        alloc: Global,
+        places: &[P],
+        nulls: &Validity,
+    ) -> Result<DecimalBuffer, AllocError>
+        requires long { IsTrue (is_as_long nulls.now (length places.now)) }
+        requires within { PlacesBelow (length (unscaled_of self.now)) nulls.now (map P.place places.now) }
+        ensures { IfOk result (λ b. unscaled_of b ≡ taken_values (pos 0) nulls.now (unscaled_of self.now) (map P.place places.now)) }
+    {
+        match self {
+            DecimalBuffer::I8(values) => take_unscaled(alloc, values, places, nulls, 0),
+            DecimalBuffer::I16(values) => take_unscaled(alloc, values, places, nulls, 0),
+            DecimalBuffer::I32(values) => take_unscaled(alloc, values, places, nulls, 0),
+            DecimalBuffer::I64(values) => take_unscaled(alloc, values, places, nulls, 0),
+            DecimalBuffer::I128(values) => take_unscaled(alloc, values, places, nulls, 0),
+        }
+    }
 }
 
 impl DecimalArray {
@@ -139,6 +179,26 @@ impl DecimalArray {
         let values = self.values().filter(alloc, mask)?;
         match DecimalArray::try_new(values, self.decimal_dtype(), validity) {
             Ok(kept) => Ok(kept),
+            Err(_) => unreachable!(),
+        }
+    }
+
+    /// The rows at the places, in the order of the places; null where a place is null. A place may come again, and one
+    /// that is null may be any number.
+    pub fn take<P: Place>(
+        &self,
+        alloc: Global,
+        places: &[P],
+        nulls: &Validity,
+    ) -> Result<DecimalArray, AllocError>
+        requires long { IsTrue (is_as_long nulls.now (length places.now)) }
+        requires within { PlacesBelow (length (decimal_column self.now).rows) nulls.now (map P.place places.now) }
+        ensures { IfOk result (λ part. decimal_column part ≡ taken (index_column nulls.now (map P.place places.now)) (decimal_column self.now)) }
+    {
+        let validity = self.validity().take(alloc, places, nulls)?;
+        let values = self.values().take(alloc, places, nulls)?;
+        match DecimalArray::try_new(values, self.decimal_dtype(), validity) {
+            Ok(part) => Ok(part),
             Err(_) => unreachable!(),
         }
     }

@@ -1,14 +1,18 @@
 // Parts of columns of whole numbers. Each pass is generic over the width.
-ghost use Rattle.std.specs.Prelude.{◌≡◌, ◌≤◌, IfOk, length, map, pos, slice_range};
+ghost use Rattle.std.specs.Prelude.{◌≡◌, ◌≤◌, IfOk, IsTrue, length, map, pos, slice_range};
 ghost use Rattle.vortex_buffer.specs.Mask.{mask_bits};
 ghost use Rattle.vortex_types.specs.declared.types.PType.TheVariants as widths;
 ghost use Rattle.vortex_columns.specs.Kinds.{len_of, numbers_of, primitive_column, ptype_of};
-ghost use Rattle.vortex_columns.specs.Selected.{filtered, kept_by, sliced};
+ghost use Rattle.vortex_columns.specs.Selected.{filtered, kept_by, sliced, taken};
+ghost use Rattle.vortex_columns.specs.SelectedParts.{PlacesBelow, index_column, taken_values};
+ghost use Rattle.vortex_columns.specs.Validities.{is_as_long};
 
 use crate::primitive::{PrimitiveArray, PrimitiveBuffer};
+use crate::select::validities::take_values;
+use crate::validity::Validity;
 use std::alloc::{AllocError, Global};
 use vortex_buffer::{Buffer, Mask};
-use vortex_rows::{filter_items, slice_items};
+use vortex_rows::{Place, filter_items, slice_items};
 use vortex_types::NativeValue;
 
 // A native type of whole numbers, and how its numbers are a buffer.
@@ -121,6 +125,23 @@ fn filter_numbers<T: WholeWidth>(
     Ok(T::wrap(kept))
 }
 
+// The numbers at places, and the default where a place is null.
+fn take_numbers<T: WholeWidth, P: Place>(
+    alloc: Global,
+    items: &Buffer<T>,
+    places: &[P],
+    nulls: &Validity,
+    default: T,
+) -> Result<PrimitiveBuffer, AllocError>
+    requires long { IsTrue (is_as_long nulls.now (length places.now)) }
+    requires within { PlacesBelow (length (map T.number items.now)) nulls.now (map P.place places.now) }
+    ensures numbers { IfOk result (λ b. numbers_of b ≡ taken_values (T.number default) nulls.now (map T.number items.now) (map P.place places.now)) }
+    ensures width { IfOk result (λ b. ptype_of b ≡ T.width) }
+{
+    let taken = take_values(alloc, items.as_slice(), places, nulls, default)?;
+    Ok(T::wrap(taken))
+}
+
 impl PrimitiveBuffer {
     /// The numbers from `start` up to `end`, without it.
     pub fn slice(
@@ -163,6 +184,30 @@ impl PrimitiveBuffer {
             PrimitiveBuffer::I64(values) => filter_numbers(alloc, values, mask),
         }
     }
+
+    /// The numbers at the places, and 0 where a place is null.
+    pub fn take<P: Place>(
+        &self,
+        alloc: Global,
+        places: &[P],
+        nulls: &Validity,
+    ) -> Result<PrimitiveBuffer, AllocError>
+        requires long { IsTrue (is_as_long nulls.now (length places.now)) }
+        requires within { PlacesBelow (len_of self.now) nulls.now (map P.place places.now) }
+        ensures numbers { IfOk result (λ b. numbers_of b ≡ taken_values (pos 0) nulls.now (numbers_of self.now) (map P.place places.now)) }
+        ensures width { IfOk result (λ b. ptype_of b ≡ ptype_of self.now) }
+    {
+        match self {
+            PrimitiveBuffer::U8(values) => take_numbers(alloc, values, places, nulls, 0),
+            PrimitiveBuffer::U16(values) => take_numbers(alloc, values, places, nulls, 0),
+            PrimitiveBuffer::U32(values) => take_numbers(alloc, values, places, nulls, 0),
+            PrimitiveBuffer::U64(values) => take_numbers(alloc, values, places, nulls, 0),
+            PrimitiveBuffer::I8(values) => take_numbers(alloc, values, places, nulls, 0),
+            PrimitiveBuffer::I16(values) => take_numbers(alloc, values, places, nulls, 0),
+            PrimitiveBuffer::I32(values) => take_numbers(alloc, values, places, nulls, 0),
+            PrimitiveBuffer::I64(values) => take_numbers(alloc, values, places, nulls, 0),
+        }
+    }
 }
 
 impl PrimitiveArray {
@@ -194,6 +239,26 @@ impl PrimitiveArray {
         let values = self.values().filter(alloc, mask)?;
         match PrimitiveArray::try_new(values, validity) {
             Ok(kept) => Ok(kept),
+            Err(_) => unreachable!(),
+        }
+    }
+
+    /// The rows at the places, in the order of the places; null where a place is null. A place may come again, and one
+    /// that is null may be any number.
+    pub fn take<P: Place>(
+        &self,
+        alloc: Global,
+        places: &[P],
+        nulls: &Validity,
+    ) -> Result<PrimitiveArray, AllocError>
+        requires long { IsTrue (is_as_long nulls.now (length places.now)) }
+        requires within { PlacesBelow (length (primitive_column self.now).rows) nulls.now (map P.place places.now) }
+        ensures { IfOk result (λ part. primitive_column part ≡ taken (index_column nulls.now (map P.place places.now)) (primitive_column self.now)) }
+    {
+        let validity = self.validity().take(alloc, places, nulls)?;
+        let values = self.values().take(alloc, places, nulls)?;
+        match PrimitiveArray::try_new(values, validity) {
+            Ok(part) => Ok(part),
             Err(_) => unreachable!(),
         }
     }

@@ -14,6 +14,7 @@ use Rattle.vortex_rows.proofs.Kept.{kept_by-map, kept_by-zip2, length-kept_by}
 use Rattle.vortex_columns.specs.Validities.{row_of, rows_under, is_as_long, nullability_of}
 use Rattle.vortex_columns.specs.Selected.{sliced, filtered}
 use Rattle.vortex_columns.specs.SelectedParts.{Covers, sliced_validity, kept_validity}
+use Rattle.vortex_columns.proofs.RowLemmas.{length-rows-map}
 use Rattle.vortex_columns.specs.declared.validity.Validity.{Validity}
 use Rattle.vortex_columns.specs.declared.validity.Validity.TheVariants.{NonNullable, AllValid, AllInvalid, Bits}
 
@@ -91,3 +92,15 @@ pub kept-column : {X : Type 0} (t : Nullability → DType) (f : X → Value) (se
     → column_with (t (nullability_of (kept_validity set v))) (rows_under (kept_validity set v) (map f (kept_by set xs)))
       ≡ filtered set (column_with (t (nullability_of v)) (rows_under v (map f xs)))
 kept-column t f set v xs = same-column _ _ _ _ (ap t (kept-nulls set v)) (ap (rows_under (kept_validity set v)) (sym (kept_by-map f set xs)) ∙ rows-kept set v (map f xs))
+
+-- a mask that is as long as the rows is as long as the values
+pub mask-same : {X Y : Type 0} (f : X → Y) (v : Validity) (xs : List X) (set : List Bool) → IsTrue (is_as_long v (length xs)) → length set ≡ length (rows_under v (map f xs)) → length set ≡ length xs
+mask-same f v xs set e same = same ∙ length-rows-map f v xs e
+
+-- and as the validity
+pub mask-fits : {X Y : Type 0} (f : X → Y) (v : Validity) (xs : List X) (set : List Bool) → IsTrue (is_as_long v (length xs)) → length set ≡ length (rows_under v (map f xs)) → IsTrue (is_as_long v (length set))
+mask-fits f v xs set e same = rw (mask-same f v xs set e same) e
+
+-- an end within the rows is one within the values
+pub end-within : {X Y : Type 0} (f : X → Y) (v : Validity) (xs : List X) (j : ℕ) → IsTrue (is_as_long v (length xs)) → j ≤ length (rows_under v (map f xs)) → j ≤ length xs
+end-within f v xs j e within = omega (arith, within, length-rows-map f v xs e)

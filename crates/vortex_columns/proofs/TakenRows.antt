@@ -1,5 +1,5 @@
 -- Rows at places.
-use Rattle.std.proofs.Common.{ℕ, zero, suc, ◌<◌, ◌≡◌, Bool, true, false, cond, List, [], ◌∷◌, length, get_or, map, replicate, refl, sym, ap, ◌∙◌, arith, Option, Some, None, eq-eqb}
+use Rattle.std.proofs.Common.{ℕ, zero, suc, ◌<◌, ◌≡◌, Bool, true, false, cond, List, [], ◌∷◌, length, get_or, map, replicate, refl, sym, ap, subst, ◌∙◌, arith, Option, Some, None, eq-eqb}
 use Rattle.std.specs.Prelude.{pos, IsTrue, All}
 use Rattle.std.specs.Simd.Lanes.{zip2}
 use Rattle.std.proofs.lemmas.List.{length-map, length-replicate}
@@ -18,25 +18,25 @@ use Rattle.vortex_columns.specs.Selected.{IndexBelow, row_at, taken}
 use Rattle.vortex_columns.specs.SelectedParts.{CoversAll, CoversPlaces, CoversSet, PlacesBelow, index_column, taken_validity, taken_values, valid_at_places, valid_where_set}
 use Rattle.vortex_columns.specs.declared.validity.Validity.{Validity}
 use Rattle.vortex_columns.specs.declared.validity.Validity.TheVariants.{NonNullable, AllValid, AllInvalid, Bits}
-use Rattle.vortex_columns.proofs.RowLemmas.{row-at}
+use Rattle.vortex_columns.proofs.RowLemmas.{length-rows-map, row-at}
 use Rattle.vortex_columns.proofs.SelectedRows.{bits-long, column_with, same-column}
 
 -- the rows of indices at places
-abbrev index_rows : Validity → List ℕ → List (Option Value)
+abbrev pub index_rows : Validity → List ℕ → List (Option Value)
 index_rows w places = rows_under w (map (λ i. value.Int (pos i)) places)
 
 -- what indices ask for, where each is there
-at_places : (rows : List (Option Value)) (places : List ℕ) → map (row_at rows) (index_rows AllValid places) ≡ map (λ i. get_or rows i None) places
+pub at_places : (rows : List (Option Value)) (places : List ℕ) → map (row_at rows) (index_rows AllValid places) ≡ map (λ i. get_or rows i None) places
 at_places rows [] = refl
 at_places rows (i ∷ places) = ap (λ rs. get_or rows i None ∷ rs) (at_places rows places)
 
 -- where each is null
-at_nulls : (rows : List (Option Value)) (places : List ℕ) → map (row_at rows) (index_rows AllInvalid places) ≡ replicate (length places) None
+pub at_nulls : (rows : List (Option Value)) (places : List ℕ) → map (row_at rows) (index_rows AllInvalid places) ≡ replicate (length places) None
 at_nulls rows [] = refl
 at_nulls rows (i ∷ places) = ap (λ rs. None ∷ rs) (at_nulls rows places)
 
 -- and where bits say so
-at_set : (rows : List (Option Value)) (places : List ℕ) (set : List Bool) → map (row_at rows) (index_rows (Bits set) places) ≡ taken_or None rows places set
+pub at_set : (rows : List (Option Value)) (places : List ℕ) (set : List Bool) → map (row_at rows) (index_rows (Bits set) places) ≡ taken_or None rows places set
 at_set rows [] set = refl
 at_set rows (i ∷ places) [] = refl
 at_set rows (i ∷ places) (true ∷ set) = ap (λ rs. get_or rows i None ∷ rs) (at_set rows places set)
@@ -158,13 +158,13 @@ pub taken-column : {X : Type 0} (t : Nullability → DType) (f : X → Value) (d
 taken-column t f d w v xs places h e l b = same-column _ _ _ _ (taken_nulls t w v places h) (taken_rows f d w v xs places e l b)
 
 below_valid : (n : ℕ) (places : List ℕ) → All (IndexBelow n) (index_rows AllValid places) → All (λ i. i < n) places
-below_valid n [] h = λ i d l. absurd (omega (arith, l))
+below_valid n [] h i d l = absurd (omega (arith, l))
 below_valid n (p ∷ places) h zero d l = h 0 None (omega arith)
 below_valid n (p ∷ places) h (suc i) d l = below_valid n places (λ k e m. h (suc k) e (omega (arith, m))) i d (omega (arith, l))
 
 below_set : (n : ℕ) (places : List ℕ) (set : List Bool) → length set ≡ length places → All (IndexBelow n) (index_rows (Bits set) places) → SetPlacesBelow n places set
-below_set n [] set same h = λ k l e. absurd (omega (arith, l))
-below_set n (p ∷ places) [] same h = absurd (omega (arith, same))
+below_set n [] set same h k l e = absurd (omega (arith, l))
+below_set n (p ∷ places) [] same h k l e = absurd (omega (arith, same))
 below_set n (p ∷ places) (true ∷ set) same h zero l e = h 0 None (omega arith)
 below_set n (p ∷ places) (false ∷ set) same h zero l e = absurd (cc e)
 below_set n (p ∷ places) (b ∷ set) same h (suc k) l e = below_set n places set (omega (arith, same)) (λ i d m. h (suc i) d (omega (arith, m))) k (omega (arith, l)) e
@@ -247,3 +247,11 @@ length-taken_values d NonNullable items places l = length-map places _
 length-taken_values d AllValid items places l = length-map places _
 length-taken_values d AllInvalid items places l = length-replicate (length places) d
 length-taken_values d (Bits set) items places l = length-taken_or d items places set (sym (bits-long set (length places) l))
+
+-- places below the number of rows are below that of the values
+pub below-values : {X Y : Type 0} (f : X → Y) (v w : Validity) (xs : List X) (places : List ℕ) → IsTrue (is_as_long v (length xs)) → PlacesBelow (length (rows_under v (map f xs))) w places → PlacesBelow (length xs) w places
+below-values f v w xs places e h = subst (λ n. PlacesBelow n w places) (length-rows-map f v xs e) h
+
+-- a validity that is as long as places is as long as their numbers
+pub long-places : {P : Type 0} (f : P → ℕ) (w : Validity) (places : List P) → IsTrue (is_as_long w (length places)) → IsTrue (is_as_long w (length (map f places)))
+long-places f w places l = rw (length-map places f) l

@@ -1,7 +1,7 @@
 // Which rows of a part of a column are not null.
 ghost use Rattle.std.specs.Prelude.{◌≡◌, ◌<◌, ◌≤◌, All, false, IfOk, IsTrue, length, map, replicate, slice_index_or};
 ghost use Rattle.vortex_buffer.specs.Mask.{mask_bits};
-ghost use Rattle.vortex_columns.specs.SelectedParts.{Covers, CoversAll, CoversPlaces, CoversSet, PlacesBelow, kept_validity, sliced_validity, taken_validity, taken_values, valid_at_places, valid_where_set};
+ghost use Rattle.vortex_columns.specs.SelectedParts.{Covers, CoversAll, CoversPlaces, CoversSet, PlacesBelow, has_none, kept_validity, sliced_validity, taken_validity, taken_values, valid_at_places, valid_where_set};
 ghost use Rattle.vortex_columns.specs.Validities.{is_as_long, nullable_validity};
 
 use crate::validity::Validity;
@@ -12,6 +12,16 @@ use vortex_rows::{
 };
 
 impl Validity {
+    /// Whether it says of no row, however many there are, that it is null. Bits may say so, and are not looked at.
+    pub fn has_none(&self) -> bool
+        ensures { result ≡ has_none self.now }
+    {
+        match self {
+            Validity::NonNullable | Validity::AllValid => true,
+            Validity::AllInvalid | Validity::Bits(_) => false,
+        }
+    }
+
     /// Which of the rows from `start` up to `end`, without it, are not null.
     pub fn slice(&self, alloc: Global, start: usize, end: usize) -> Result<Validity, AllocError>
         requires order { start ≤ end }
@@ -161,7 +171,10 @@ fn take_present<T: Copy, P: Place>(
 fn equal_values<T: Copy>(alloc: Global, value: T, len: usize) -> Result<Buffer<T>, AllocError>
     ensures { IfOk result (λ values. values ≡ replicate len value) }
 {
-    let values = Vec::from_elem(alloc, value, len)?;
+    let mut values = Vec::with_capacity(alloc, len)?;
+    for _ in 0..len {
+        values.push(value)?;
+    }
     Ok(Buffer::from_vec(values))
 }
 

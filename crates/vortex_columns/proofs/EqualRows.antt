@@ -1,6 +1,6 @@
 -- Parts of equal rows.
-use Rattle.std.proofs.Common.{ℕ, zero, suc, ◌+◌, ◌-◌, ◌<◌, ◌≤◌, ◌≡◌, Bool, true, false, List, [], ◌∷◌, ◌++◌, length, get_or, take, drop, map, replicate, refl, sym, ap, ◌∙◌, arith, Option, Some, None}
-use Rattle.std.specs.Prelude.{IsTrue, All, slice_range}
+use Rattle.std.proofs.Common.{ℕ, zero, suc, ◌+◌, ◌-◌, ◌<◌, ◌≤◌, ◌≡◌, Bool, true, false, List, [], ◌∷◌, ◌++◌, length, get_or, take, drop, map, replicate, refl, sym, ap, ◌∙◌, arith, Option, None}
+use Rattle.std.specs.Prelude.{IsTrue, All}
 use Rattle.std.specs.List.{count_by}
 use Rattle.std.proofs.lemmas.List.{get_or-replicate, length-map, length-replicate}
 use Rattle.vortex_types.specs.Row.{TypedRow}
@@ -12,13 +12,13 @@ use Rattle.vortex_columns.specs.Selected.{filtered, row_at, sliced, taken}
 use Rattle.vortex_columns.specs.SelectedParts.{PlacesBelow, has_none, index_column, taken_type}
 use Rattle.vortex_columns.specs.declared.validity.Validity.{Validity}
 use Rattle.vortex_columns.specs.declared.validity.Validity.TheVariants.{NonNullable, AllValid, AllInvalid, Bits}
-use Rattle.vortex_columns.proofs.SelectedRows.{column_with, same-column}
+use Rattle.vortex_columns.proofs.SelectedRows.{column_with}
 use Rattle.vortex_columns.proofs.TakenRows.{at_places, index_rows}
 
 -- one more equal item
 pub equal-more : {X : Type 0} (n : ℕ) (x : X) → replicate (n + 1) x ≡ replicate n x ++ x ∷ []
 equal-more zero x = refl
-equal-more (suc n) x = ap (λ xs. x ∷ xs) (equal-more n x)
+equal-more (suc n) x = let e : suc n + 1 ≡ suc (n + 1) = omega arith in ap (λ m. replicate m x) e ∙ ap (λ xs. x ∷ xs) (equal-more n x)
 
 drop_equal : {X : Type 0} (i n : ℕ) (x : X) → drop i (replicate n x) ≡ replicate (n - i) x
 drop_equal zero n x = let e : n ≡ n - 0 = omega arith in ap (λ m. replicate m x) e

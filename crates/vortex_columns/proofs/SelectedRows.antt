@@ -1,8 +1,6 @@
 -- Parts of rows under a validity.
-use Rattle.std.proofs.Common.{ℕ, zero, suc, ◌-◌, ◌≤◌, ◌<◌, ◌≡◌, ◌==◌, Bool, true, false, cond, List, [], ◌∷◌, length, get_or, map, replicate, refl, sym, ap, ◌∙◌, arith, Option, Some, None, eq-eqb}
-use Rattle.std.specs.Prelude.{ℤ, pos, IsTrue, All, slice_range}
-use Rattle.std.specs.Simd.Lanes.{zip2}
-use Rattle.std.proofs.lemmas.List.{length-map}
+use Rattle.std.proofs.Common.{ℕ, ◌-◌, ◌≤◌, ◌≡◌, ◌==◌, Bool, List, length, map, refl, sym, ap, ◌∙◌, arith, Option, Some, None, eq-eqb}
+use Rattle.std.specs.Prelude.{IsTrue, slice_range}
 use Rattle.std.proofs.lemmas.Bool.Decides.{Decides-eqb}
 use Rattle.vortex_types.specs.Row.{Column}
 use Rattle.vortex_types.specs.declared.types.DType.{DType}

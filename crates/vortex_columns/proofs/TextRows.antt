@@ -1,7 +1,6 @@
 -- Parts of rows of texts and of bytes.
-use Rattle.std.proofs.Common.{ℕ, zero, suc, ◌-◌, ◌<◌, ◌≤◌, ◌≡◌, ◌+◌, ◌++◌, Bool, true, false, cond, List, [], ◌∷◌, length, get_or, take, drop, map, replicate, refl, sym, ap, ◌∙◌, arith, Option, Some, None}
+use Rattle.std.proofs.Common.{ℕ, zero, suc, ◌-◌, ◌<◌, ◌≤◌, ◌≡◌, Bool, true, false, cond, List, [], ◌∷◌, length, get_or, drop, map, replicate, refl, sym, ap, ◌∙◌, arith, None}
 use Rattle.std.specs.Prelude.{IsTrue, IsUtf8, All, ◌||◌, slice_range}
-use Rattle.std.specs.Simd.Lanes.{zip2}
 use Rattle.std.proofs.lemmas.Str.{IsUtf8-nil}
 use Rattle.std.proofs.lemmas.List.Elements.{All-drop, All-take}
 use Rattle.vortex_types.specs.Row.{is_nullable}
@@ -9,7 +8,7 @@ use Rattle.vortex_types.specs.Widths.{nullable_form}
 use Rattle.vortex_types.specs.declared.types.DType.{DType}
 use Rattle.vortex_types.specs.declared.types.DType.TheVariants as dtype
 use Rattle.vortex_rows.specs.Kept.{kept_by}
-use Rattle.vortex_rows.specs.Taken.{SetPlacesBelow, taken_or}
+use Rattle.vortex_rows.specs.Taken.{taken_or}
 use Rattle.vortex_rows.proofs.Slices.{length-slice, slice-zip2}
 use Rattle.vortex_rows.proofs.Kept.{kept_by-zip2, length-kept_by}
 use Rattle.vortex_rows.proofs.Taken.{taken_or-zip2}
@@ -19,8 +18,8 @@ use Rattle.vortex_columns.specs.Selected.{sliced, filtered, taken, row_at}
 use Rattle.vortex_columns.specs.SelectedParts.{PlacesBelow, index_column, taken_type, taken_values}
 use Rattle.vortex_columns.specs.declared.validity.Validity.{Validity}
 use Rattle.vortex_columns.specs.declared.validity.Validity.TheVariants.{NonNullable, AllValid, AllInvalid, Bits}
-use Rattle.vortex_columns.proofs.ByteRows.{nullable-bytes, nullable-holds}
-use Rattle.vortex_columns.proofs.SelectedRows.{column_with, same-column}
+use Rattle.vortex_columns.proofs.ByteRows.{nullable-bytes}
+use Rattle.vortex_columns.proofs.SelectedRows.{column_with}
 use Rattle.vortex_columns.proofs.TakenRows.{at_nulls, at_places, at_set, index_rows, length-taken_values}
 
 -- what holds of all items holds of those that are kept

@@ -3,7 +3,6 @@ use Rattle.std.specs.Prelude.{IsTrue}
 use Rattle.std.specs.Prelude.{false}
 use Rattle.vortex_types.specs.declared.types.DType.TheVariants as dtype
 use Rattle.vortex_types.specs.declared.scalar.Value.TheVariants as value
-use Rattle.vortex_buffer.specs.Mask.{mask_bits}
 use Rattle.vortex_columns.specs.Validities.{is_as_long}
 use Rattle.vortex_columns.proofs.TakenRows.{below-values, covers-places, length-taken_values, long-places, taken-column, taken-long}
 use Rattle.vortex_columns.proofs.bools.BoolArray.take.Goals as goal

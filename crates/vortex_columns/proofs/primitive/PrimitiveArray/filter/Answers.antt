@@ -1,6 +1,5 @@
-use Rattle.std.proofs.Common.{length, map}
+use Rattle.std.proofs.Common.{length}
 use Rattle.std.specs.Prelude.{IsTrue}
-use Rattle.std.specs.Prelude.{pos}
 use Rattle.vortex_columns.specs.Kinds.{numbers_of, ptype_of}
 use Rattle.vortex_types.specs.declared.types.DType.TheVariants as dtype
 use Rattle.vortex_types.specs.declared.scalar.Value.TheVariants as value

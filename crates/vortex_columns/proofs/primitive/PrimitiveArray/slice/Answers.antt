@@ -1,11 +1,7 @@
-use Rattle.std.proofs.Common.{length, map}
-use Rattle.std.specs.Prelude.{IsTrue}
-use Rattle.std.specs.Prelude.{pos}
+use Rattle.std.proofs.Common.{length}
 use Rattle.vortex_columns.specs.Kinds.{numbers_of, ptype_of}
 use Rattle.vortex_types.specs.declared.types.DType.TheVariants as dtype
 use Rattle.vortex_types.specs.declared.scalar.Value.TheVariants as value
-use Rattle.vortex_buffer.specs.Mask.{mask_bits}
-use Rattle.vortex_columns.specs.Validities.{is_as_long}
 use Rattle.vortex_columns.proofs.SelectedRows.{covers-fewer, end-within, sliced-column}
 use Rattle.vortex_columns.proofs.primitive.PrimitiveArray.slice.Goals as goal
 

@@ -1,4 +1,4 @@
-use Rattle.std.proofs.Common.{◌∙◌, ap, map, sym}
+use Rattle.std.proofs.Common.{◌∙◌, ap, map}
 use Rattle.vortex_columns.proofs.TakenRows.{taken_values-map}
 use Rattle.vortex_columns.proofs.select.decimals.take_unscaled.Goals as goal
 

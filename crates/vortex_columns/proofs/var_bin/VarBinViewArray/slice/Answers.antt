@@ -1,4 +1,4 @@
-use Rattle.std.proofs.Common.{◌∙◌, ◌≤◌, ◌≡◌, ap, arith, length, sym}
+use Rattle.std.proofs.Common.{◌∙◌, ◌≤◌, ap, arith, length}
 use Rattle.vortex_columns.proofs.ByteRows.{length-bytes}
 use Rattle.vortex_columns.proofs.TextRows.{slice-bytes, slice-holds}
 use Rattle.vortex_columns.proofs.var_bin.VarBinViewArray.slice.Goals as goal

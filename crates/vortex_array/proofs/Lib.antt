@@ -1,0 +1,2 @@
+pub mod TakenAt
+pub mod Heads

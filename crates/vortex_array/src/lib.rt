@@ -4,6 +4,9 @@
 
 mod arrays;
 mod batch;
+mod select;
+mod single;
+mod take;
 
 pub use arrays::Array;
 pub use batch::RecordBatch;
@@ -16,3 +19,6 @@ pub use vortex_types::{
     DecimalDType, Filter, FilterError, Name, NativeValue, Nullability, Operand, PType, Scalar,
     StrictComparison, Text, Value, ValueRef, WrongType,
 };
+
+#[cfg(test)]
+mod tests;

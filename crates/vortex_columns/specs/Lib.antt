@@ -4,3 +4,5 @@ pub mod Numbers
 pub mod Kinds
 pub mod ByteRows
 pub mod Pushed
+pub mod Selected
+pub mod SelectedParts

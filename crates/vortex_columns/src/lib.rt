@@ -6,6 +6,7 @@ mod bools;
 mod constant;
 mod decimal;
 mod primitive;
+mod select;
 mod validity;
 mod var_bin;
 

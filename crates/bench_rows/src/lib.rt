@@ -2,7 +2,7 @@
 //! many rows it gave, and the last of them through `last`.
 #![tactic(auto)]
 
-ghost use Rattle.std.specs.Prelude.{◌≡◌, ◌≤◌, ◌<◌, ◌*◌, All, length};
+ghost use Rattle.std.specs.Prelude.{◌≡◌, ◌≤◌, ◌<◌, ◌*◌, All, length, map};
 
 use std::alloc::Global;
 use vortex_buffer::{BitBuffer, Buffer, Mask};
@@ -47,7 +47,7 @@ pub extern "C" fn bench_take(
     places: &[usize],
     last: &mut u64,
 ) -> usize
-    requires { All (λ place. place < length values.now) places.now }
+    requires { All (λ place. place < length values.now) (map (λ place. place) places.now) }
 {
     match take_items(alloc, values, places) {
         Err(_) => 0,

@@ -4,3 +4,6 @@ pub mod Numbers
 pub mod Kinds
 pub mod ByteRows
 pub mod Pushed
+pub mod Truths
+pub mod Known
+pub mod TruthLaws

@@ -8,6 +8,10 @@ ghost use Rattle.vortex_columns.specs.Kinds.{nullable_column};
 ghost use Rattle.vortex_columns.specs.Pushed.{Admits, Refuses};
 ghost use Rattle.vortex_columns.specs.declared.var_bin.PushError.TheVariants.{NotUtf8};
 
+mod parts;
+
+pub use parts::{ByteParts, validity_of_rows};
+
 use vortex_rows::ByteLists;
 use crate::validity::row_if;
 use std::alloc::{AllocError, Global};

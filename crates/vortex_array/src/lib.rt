@@ -4,6 +4,7 @@
 
 mod arrays;
 mod batch;
+mod compare;
 
 pub use arrays::Array;
 pub use batch::RecordBatch;
@@ -16,3 +17,6 @@ pub use vortex_types::{
     DecimalDType, Filter, Name, NativeValue, Nullability, Operand, PType, Scalar, StrictComparison,
     Text, Value, ValueRef, WrongType,
 };
+
+#[cfg(test)]
+mod tests;

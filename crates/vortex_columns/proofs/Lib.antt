@@ -5,3 +5,4 @@ pub mod TruthColumns
 pub mod BothValid
 pub mod KnownWhere
 pub mod TruthLaws
+pub mod PresentRows

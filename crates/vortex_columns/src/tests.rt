@@ -1,6 +1,5 @@
 // Truth values in three values, by the words of a table.
 ghost use Rattle.std.specs.Prelude.{IfOk, ◌≡◌, length};
-ghost use Rattle.vortex_columns.specs.Kinds.{bool_column};
 
 use crate::{BoolArray, Validity};
 use std::alloc::{AllocError, Global};
@@ -16,12 +15,13 @@ fn three_bits(alloc: Global, word: u64) -> Result<BitBuffer, AllocError>
 }
 
 // Three rows: bits, and which of them are not null.
-fn three_rows(alloc: Global, bits: u64, valid: u64) -> Result<BoolArray, AllocError>
-    ensures { IfOk result (λ a. length (bool_column a).rows ≡ 3) }
-{
+fn three_rows(alloc: Global, bits: u64, valid: u64) -> Result<BoolArray, AllocError> {
     let bits = three_bits(alloc, bits)?;
     let valid = three_bits(alloc, valid)?;
-    Ok(BoolArray::from_parts(bits, Validity::Bits(valid)))
+    match BoolArray::try_new(bits, Validity::Bits(valid)) {
+        Ok(array) => Ok(array),
+        Err(_) => Err(AllocError),
+    }
 }
 
 // Rows as text: 1 for true, 0 for false, - for null.
@@ -46,6 +46,33 @@ fn text_of_mask(alloc: Global, mask: &Mask) -> Result<String, AllocError> {
     Ok(text)
 }
 
+// The conjunction of as many rows, as text.
+fn and_text(alloc: Global, left: &BoolArray, right: &BoolArray) -> Result<String, AllocError> {
+    if left.len() != right.len() {
+        return Err(AllocError);
+    }
+    let both = left.kleene_and(alloc, right)?;
+    text_of(alloc, &both)
+}
+
+// The disjunction of as many rows, as text.
+fn or_text(alloc: Global, left: &BoolArray, right: &BoolArray) -> Result<String, AllocError> {
+    if left.len() != right.len() {
+        return Err(AllocError);
+    }
+    let either = left.kleene_or(alloc, right)?;
+    text_of(alloc, &either)
+}
+
+// Whether both of as many rows are true, as text.
+fn both_text(alloc: Global, left: &BoolArray, right: &BoolArray) -> Result<String, AllocError> {
+    if left.len() != right.len() {
+        return Err(AllocError);
+    }
+    let both = left.both_true(alloc, right)?;
+    text_of(alloc, &both)
+}
+
 #[test]
 fn truth_values_are_joined_in_three_values(rt: HostRuntime) -> Result<(), Fail> {
     let alloc = rt.alloc();
@@ -53,12 +80,12 @@ fn truth_values_are_joined_in_three_values(rt: HostRuntime) -> Result<(), Fail> 
     let nulls = three_rows(alloc, 0b110, 0b000)?;
     let trues = three_rows(alloc, 0b111, 0b111)?;
     assert_eq!(rt; text_of(alloc, &rows)?.as_str(), "1-0");
-    assert_eq!(rt; text_of(alloc, &rows.kleene_and(alloc, &nulls)?)?.as_str(), "--0");
-    assert_eq!(rt; text_of(alloc, &rows.kleene_or(alloc, &nulls)?)?.as_str(), "1--");
-    assert_eq!(rt; text_of(alloc, &rows.kleene_and(alloc, &trues)?)?.as_str(), "1-0");
-    assert_eq!(rt; text_of(alloc, &rows.kleene_or(alloc, &trues)?)?.as_str(), "111");
-    assert_eq!(rt; text_of(alloc, &rows.both_true(alloc, &nulls)?)?.as_str(), "---");
-    assert_eq!(rt; text_of(alloc, &rows.both_true(alloc, &trues)?)?.as_str(), "1-0");
+    assert_eq!(rt; and_text(alloc, &rows, &nulls)?.as_str(), "--0");
+    assert_eq!(rt; or_text(alloc, &rows, &nulls)?.as_str(), "1--");
+    assert_eq!(rt; and_text(alloc, &rows, &trues)?.as_str(), "1-0");
+    assert_eq!(rt; or_text(alloc, &rows, &trues)?.as_str(), "111");
+    assert_eq!(rt; both_text(alloc, &rows, &nulls)?.as_str(), "---");
+    assert_eq!(rt; both_text(alloc, &rows, &trues)?.as_str(), "1-0");
     Ok(())
 }
 

@@ -1,1 +1,5 @@
 pub mod Sides
+pub mod TurnedRound
+pub mod Equal
+pub mod ListSides
+pub mod OrderAnswers

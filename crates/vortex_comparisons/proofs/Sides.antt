@@ -15,10 +15,11 @@ use Rattle.vortex_types.specs.declared.scalar.Value.TheVariants as value
 use Rattle.vortex_columns.specs.Kinds.{bool_column}
 use Rattle.vortex_columns.specs.Parts.{BoolParts}
 use Rattle.vortex_columns.specs.Truths.{BothValid, compared, either, either_column, truth_row}
-use Rattle.vortex_columns.specs.Validities.{is_as_long, nullability_of, row_of, valid_bits}
+use Rattle.vortex_columns.specs.Validities.{is_as_long, nullability_of, row_of, rows_under, valid_bits}
 use Rattle.vortex_columns.specs.declared.validity.Validity.{Validity}
-use Rattle.vortex_columns.proofs.TruthColumns.{truth-column}
-use Rattle.vortex_columns.proofs.TruthRows.{cons_same, length-valid, truth_rows}
+use Rattle.vortex_columns.proofs.TruthColumns.{column, truth-column}
+use Rattle.vortex_columns.proofs.TruthRows.{cons_same, length-valid, rows-present, truth_rows}
+use Rattle.vortex_columns.proofs.RowLemmas.{length-rows-map}
 use Rattle.vortex_comparisons.specs.Repeated.{repeated}
 
 -- a column whose rows are the values of items, null where the validity says so
@@ -95,3 +96,38 @@ repeated-side f x n t v full long k = record {
 -- each item compared with one is the pairs with that one repeated
 pub beside-repeated : {X Y : Type 0} (order : X → Y → Ordering) (operator : CompareOperator) (xs : List X) (y : Y) → map (accepts operator) (map (λ x. order x y) xs) ≡ map (accepts operator) (zip2 order xs (replicate (length xs) y))
 beside-repeated order operator xs y = ap (map (accepts operator)) (sym (zip2_splat order xs (length xs) y refl))
+
+-- rows under a validity
+pub items-side : {X : Type 0} (f : X → Value) (xs : List X) (v : Validity) (t : DType) → IsTrue (is_as_long v (length xs)) → nullability t ≡ nullability_of v → Side f xs v (column t (rows_under v (map f xs)))
+items-side f xs v t k e = record { long = k; rows = rows-present f v xs; nulls = e }
+
+-- as many answers as pairs
+pub length-answers : {X Y : Type 0} (order : X → Y → Ordering) (operator : CompareOperator) (xs : List X) (ys : List Y) (bits : List Bool) → length xs ≡ length ys → bits ≡ map (accepts operator) (zip2 order xs ys) → length bits ≡ length xs
+length-answers order operator xs ys bits e is = ap length is ∙ length-map (zip2 order xs ys) (accepts operator) ∙ length-zip2 order xs ys e
+
+-- as many answers as items
+pub length-beside : {X Y : Type 0} (order : X → Y → Ordering) (operator : CompareOperator) (xs : List X) (y : Y) (bits : List Bool) → bits ≡ map (accepts operator) (map (λ x. order x y) xs) → length bits ≡ length xs
+length-beside order operator xs y bits is = ap length is ∙ length-map (map (λ x. order x y) xs) (accepts operator) ∙ length-map xs (λ x. order x y)
+
+-- columns of as many rows have as many items
+pub same-items : {X Y : Type 0} (f : X → Value) (g : Y → Value) (va vb : Validity) (xs : List X) (ys : List Y) → IsTrue (is_as_long va (length xs)) → IsTrue (is_as_long vb (length ys)) → length (rows_under va (map f xs)) ≡ length (rows_under vb (map g ys)) → length xs ≡ length ys
+same-items f g va vb xs ys ka kb e = sym (length-rows-map f va xs ka) ∙ e ∙ length-rows-map g vb ys kb
+
+-- two columns of items
+pub items-compared : {X : Type 0} (f : X → Value) (order : X → X → Ordering) (operator : CompareOperator) → ((x y : X) → value_cmp (f x) (f y) ≡ Some (order x y))
+    → (s t : DType) (va vb : Validity) (xs ys : List X) → IsTrue (is_as_long va (length xs)) → IsTrue (is_as_long vb (length ys)) → nullability s ≡ nullability_of va → nullability t ≡ nullability_of vb
+    → length (rows_under va (map f xs)) ≡ length (rows_under vb (map f ys))
+    → (answer : BoolParts) → answer.bits ≡ map (accepts operator) (zip2 order xs ys) → BothValid (length answer.bits) va vb answer.validity
+    → bool_column answer ≡ compared operator (column s (rows_under va (map f xs))) (column t (rows_under vb (map f ys)))
+items-compared f order operator h s t va vb xs ys ka kb es et same answer is valid =
+    compared-column f f order operator h xs ys va vb (column s (rows_under va (map f xs))) (column t (rows_under vb (map f ys))) (items-side f xs va s ka es) (items-side f ys vb t kb et) (same-items f f va vb xs ys ka kb same) answer is valid
+
+-- a column of items and one item
+pub items-beside : {X : Type 0} (f : X → Value) (order : X → X → Ordering) (operator : CompareOperator) → ((x y : X) → value_cmp (f x) (f y) ≡ Some (order x y))
+    → (s : DType) (va : Validity) (xs : List X) → IsTrue (is_as_long va (length xs)) → nullability s ≡ nullability_of va
+    → (t : DType) (v : Validity) → ((m : ℕ) → valid_bits v m ≡ replicate m true) → ((m : ℕ) → IsTrue (is_as_long v m)) → nullability_of v ≡ nullability t
+    → (y : X) (answer : BoolParts) → answer.bits ≡ map (accepts operator) (map (λ x. order x y) xs) → BothValid (length answer.bits) va v answer.validity
+    → bool_column answer ≡ compared operator (column s (rows_under va (map f xs))) (repeated t (f y) (length (rows_under va (map f xs))))
+items-beside f order operator h s va xs ka es t v full long k y answer is valid =
+    compared-column f f order operator h xs (replicate (length xs) y) va v (column s (rows_under va (map f xs))) (repeated t (f y) (length xs)) (items-side f xs va s ka es) (repeated-side f y (length xs) t v full long k) (sym (length-replicate (length xs) y)) answer (is ∙ beside-repeated order operator xs y) valid
+    ∙ ap (λ n. compared operator (column s (rows_under va (map f xs))) (repeated t (f y) n)) (sym (length-rows-map f va xs ka))

@@ -178,8 +178,10 @@ pub fn compare_decimals(
     requires same_length { length (decimal_column left.now).rows ≡ length (decimal_column right.now).rows }
     ensures { IfOk result (λ a. bool_column a ≡ compared operator (decimal_column left.now) (decimal_column right.now)) }
 {
+    let left_validity = left.validity();
+    let right_validity = right.validity();
     let bits = unscaled_bits(alloc, left.values(), right.values(), operator)?;
-    let column = answer_column(alloc, bits, left.validity(), right.validity())?;
+    let column = answer_column(alloc, bits, left_validity, right_validity)?;
     Ok(column)
 }
 
@@ -194,7 +196,9 @@ pub fn compare_decimals_with(
 ) -> Result<BoolArray, AllocError>
     ensures { IfOk result (λ a. bool_column a ≡ compared operator (decimal_column left.now) (repeated (dtype.Decimal left.now.digits nullability) (value.Decimal number) (length (decimal_column left.now).rows))) }
 {
+    let left_validity = left.validity();
+    let validity = Validity::of_values(nullability);
     let bits = number_bits(alloc, left.values(), number, operator)?;
-    let column = answer_column(alloc, bits, left.validity(), &Validity::of_values(nullability))?;
+    let column = answer_column(alloc, bits, left_validity, &validity)?;
     Ok(column)
 }

@@ -4,8 +4,8 @@ ghost use Rattle.std.specs.Cmp.Lexicographic.{slice_cmp};
 ghost use Rattle.std.specs.Ordering.{nat_cmp};
 ghost use Rattle.std.specs.Simd.Lanes.{zip2};
 ghost use Rattle.vortex_types.specs.Order.{accepts};
-ghost use Rattle.vortex_types.specs.Row.{nullability};
 ghost use Rattle.vortex_types.specs.Typed.{same_apart_from_nullability};
+ghost use Rattle.vortex_types.specs.declared.types.DType.TheVariants as dtype;
 ghost use Rattle.vortex_columns.specs.ByteRows.{bytes_value};
 ghost use Rattle.vortex_columns.specs.Kinds.{bool_column};
 ghost use Rattle.vortex_columns.specs.Truths.{compared};
@@ -19,7 +19,7 @@ use vortex_buffer::BitBuffer;
 use vortex_columns::{BoolArray, Validity, VarBinViewArray, validity_of_rows};
 use vortex_compute::{CompareOperator, IndexedSource};
 use vortex_rows::ByteLists;
-use vortex_types::{DType, Nullability};
+use vortex_types::Nullability;
 
 // Lists of bytes, as many on both sides: how the lists at each place stand.
 #[derive(Clone, Copy)]
@@ -95,19 +95,6 @@ fn constant_bits(
     Ok(bits)
 }
 
-// Whether the type has nulls.
-fn nullability_of_type(dtype: DType) -> Nullability
-    ensures { result ≡ nullability dtype }
-{
-    match dtype {
-        DType::Bool(nullability) => nullability,
-        DType::Primitive(_, nullability) => nullability,
-        DType::Decimal(_, nullability) => nullability,
-        DType::Utf8(nullability) => nullability,
-        DType::Binary(nullability) => nullability,
-    }
-}
-
 /// Row by row whether the operator holds of two columns of texts, or two of bytes, of one length, null where a row is null.
 pub fn compare_lists(
     alloc: Global,
@@ -121,9 +108,9 @@ pub fn compare_lists(
 {
     let left_parts = left.parts();
     let right_parts = right.parts();
-    let bits = pair_bits(alloc, left_parts.lists, right_parts.lists, operator)?;
     let left_validity = validity_of_rows(alloc, left.dtype(), left_parts.present)?;
     let right_validity = validity_of_rows(alloc, right.dtype(), right_parts.present)?;
+    let bits = pair_bits(alloc, left_parts.lists, right_parts.lists, operator)?;
     let column = answer_column(alloc, bits, &left_validity, &right_validity)?;
     Ok(column)
 }
@@ -134,16 +121,15 @@ pub fn compare_lists_with(
     alloc: Global,
     left: &VarBinViewArray,
     constant: &[u8],
-    dtype: DType,
+    nullability: Nullability,
     operator: CompareOperator,
 ) -> Result<BoolArray, AllocError>
-    requires same_type { IsTrue (same_apart_from_nullability left.now.dtype dtype) }
-    ensures { IfOk result (λ a. bool_column a ≡ compared operator left.now (repeated dtype (bytes_value dtype constant.now) (length left.now.rows))) }
+    ensures { IfOk result (λ a. bool_column a ≡ compared operator left.now (repeated (dtype.Binary nullability) (bytes_value left.now.dtype constant.now) (length left.now.rows))) }
 {
     let parts = left.parts();
-    let bits = constant_bits(alloc, parts.lists, constant, operator)?;
+    let validity = Validity::of_values(nullability);
     let left_validity = validity_of_rows(alloc, left.dtype(), parts.present)?;
-    let validity = Validity::of_values(nullability_of_type(dtype));
+    let bits = constant_bits(alloc, parts.lists, constant, operator)?;
     let column = answer_column(alloc, bits, &left_validity, &validity)?;
     Ok(column)
 }

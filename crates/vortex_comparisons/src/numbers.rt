@@ -281,8 +281,10 @@ pub fn compare_numbers(
     requires same_width { ptype_of right.now.values ≡ ptype_of left.now.values }
     ensures { IfOk result (λ a. bool_column a ≡ compared operator (primitive_column left.now) (primitive_column right.now)) }
 {
+    let left_validity = left.validity();
+    let right_validity = right.validity();
     let bits = buffer_bits(alloc, left.values(), right.values(), operator)?;
-    let column = answer_column(alloc, bits, left.validity(), right.validity())?;
+    let column = answer_column(alloc, bits, left_validity, right_validity)?;
     Ok(column)
 }
 
@@ -298,7 +300,9 @@ pub fn compare_numbers_with(
     requires { IsTrue (in_width (ptype_of left.now.values) number) }
     ensures { IfOk result (λ a. bool_column a ≡ compared operator (primitive_column left.now) (repeated (dtype.Primitive (ptype_of left.now.values) nullability) (value.Int number) (length (primitive_column left.now).rows))) }
 {
+    let left_validity = left.validity();
+    let validity = Validity::of_values(nullability);
     let bits = number_bits(alloc, left.values(), number, operator)?;
-    let column = answer_column(alloc, bits, left.validity(), &Validity::of_values(nullability))?;
+    let column = answer_column(alloc, bits, left_validity, &validity)?;
     Ok(column)
 }

@@ -2,6 +2,7 @@
 ghost use Rattle.std.specs.Prelude.{◌≡◌, IfOk, length, map};
 ghost use Rattle.std.specs.Ordering.{bool_cmp};
 ghost use Rattle.std.specs.Simd.Lanes.{zip2};
+ghost use Rattle.vortex_types.specs.Order.{accepts};
 ghost use Rattle.vortex_types.specs.declared.scalar.Value.TheVariants as value;
 ghost use Rattle.vortex_types.specs.declared.types.DType.TheVariants as dtype;
 ghost use Rattle.vortex_columns.specs.Kinds.{bool_column};
@@ -64,6 +65,33 @@ impl IndexedSource for BitsBeside<'_> {
     }
 }
 
+// The answers for two buffers of one length.
+fn pair_bits(
+    alloc: Global,
+    left: &BitBuffer,
+    right: &BitBuffer,
+    operator: CompareOperator,
+) -> Result<BitBuffer, AllocError>
+    requires { length left.now ≡ length right.now }
+    ensures { IfOk result (λ bits. bits ≡ map (accepts operator) (zip2 bool_cmp left.now right.now)) }
+{
+    let bits = compare_orders(alloc, &BitPairs { left, right }, operator)?;
+    Ok(bits)
+}
+
+// The answers for bits and one bit.
+fn constant_bits(
+    alloc: Global,
+    bits: &BitBuffer,
+    constant: bool,
+    operator: CompareOperator,
+) -> Result<BitBuffer, AllocError>
+    ensures { IfOk result (λ answers. answers ≡ map (accepts operator) (map (λ x. bool_cmp x constant) bits.now)) }
+{
+    let answers = compare_orders(alloc, &BitsBeside { bits, constant }, operator)?;
+    Ok(answers)
+}
+
 /// Row by row whether the operator holds of two columns of one length, null where a row is null.
 pub fn compare_truths(
     alloc: Global,
@@ -74,12 +102,10 @@ pub fn compare_truths(
     requires same_length { length (bool_column left.now).rows ≡ length (bool_column right.now).rows }
     ensures { IfOk result (λ a. bool_column a ≡ compared operator (bool_column left.now) (bool_column right.now)) }
 {
-    let pairs = BitPairs {
-        left: left.bits(),
-        right: right.bits(),
-    };
-    let bits = compare_orders(alloc, &pairs, operator)?;
-    let column = answer_column(alloc, bits, left.validity(), right.validity())?;
+    let left_validity = left.validity();
+    let right_validity = right.validity();
+    let bits = pair_bits(alloc, left.bits(), right.bits(), operator)?;
+    let column = answer_column(alloc, bits, left_validity, right_validity)?;
     Ok(column)
 }
 
@@ -94,11 +120,9 @@ pub fn compare_truths_with(
 ) -> Result<BoolArray, AllocError>
     ensures { IfOk result (λ a. bool_column a ≡ compared operator (bool_column left.now) (repeated (dtype.Bool nullability) (value.Bool constant) (length (bool_column left.now).rows))) }
 {
-    let beside = BitsBeside {
-        bits: left.bits(),
-        constant,
-    };
-    let bits = compare_orders(alloc, &beside, operator)?;
-    let column = answer_column(alloc, bits, left.validity(), &Validity::of_values(nullability))?;
+    let left_validity = left.validity();
+    let validity = Validity::of_values(nullability);
+    let bits = constant_bits(alloc, left.bits(), constant, operator)?;
+    let column = answer_column(alloc, bits, left_validity, &validity)?;
     Ok(column)
 }

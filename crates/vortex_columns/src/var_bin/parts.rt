@@ -4,10 +4,9 @@ ghost use Rattle.vortex_types.specs.Row.{is_nullable, nullability};
 ghost use Rattle.vortex_columns.specs.ByteRows.{HoldsBytes, bytes_rows};
 ghost use Rattle.vortex_columns.specs.Validities.{is_as_long, nullability_of, valid_bits};
 
-use super::VarBinViewArray;
+use super::{VarBinViewArray, present_bits};
 use crate::validity::Validity;
 use std::alloc::{AllocError, Global};
-use vortex_compute::collect_bits;
 use vortex_rows::ByteLists;
 use vortex_types::DType;
 
@@ -42,9 +41,9 @@ pub fn validity_of_rows(
     ensures present { IfOk result (λ v. valid_bits v (length present.now) ≡ present.now) }
     ensures nulls { IfOk result (λ v. nullability_of v ≡ nullability dtype) }
 {
-    if !dtype.is_nullable() {
-        return Ok(Validity::NonNullable);
+    if dtype.is_nullable() {
+        let bits = present_bits(alloc, present)?;
+        return Ok(Validity::Bits(bits));
     }
-    let bits = collect_bits(alloc, present, |is_present: bool| is_present)?;
-    Ok(Validity::Bits(bits))
+    Ok(Validity::NonNullable)
 }

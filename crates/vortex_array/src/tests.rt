@@ -1,0 +1,2 @@
+// Calls on columns of any kind, by worked rows.
+mod compare;

@@ -139,7 +139,7 @@ fn compare_value(
     value: ValueRef<'_>,
     operator: CompareOperator,
 ) -> Result<BoolArray, AllocError>
-    requires { IsTrue (value_fits (column_of left.now).dtype (value_seen value.entry)) }
+    requires { IsTrue (value_fits (column_of left.now).dtype (value_seen value)) }
     ensures { IfOk result (λ a. bool_column a ≡ compared operator (column_of left.now) (repeated dtype (value_seen value.entry) (length (column_of left.now).rows))) }
 {
     match left {

@@ -1,4 +1,4 @@
-use Rattle.std.proofs.Common.{◌≡◌, ℕ, ℤ, pos, refl}
+use Rattle.std.proofs.Common.{◌≡◌, ℕ, ℤ, pos, refl, arith}
 use Rattle.std.specs.Ordering.{nat_cmp, int_cmp}
 use Rattle.std.specs.Cmp.{int_cmp_is}
 

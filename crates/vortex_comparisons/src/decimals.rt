@@ -19,7 +19,7 @@ use vortex_compute::{CompareOperator, IndexedSource};
 use vortex_types::Nullability;
 
 // Two slices of unscaled numbers of one length, each of its own width: how the numbers at each place stand.
-#[derive(Clone, Copy)]
+#[derive(Drop)]
 struct UnscaledPairs<'a, A: DecimalValue, B: DecimalValue> {
     left: &'a [A],
     right: &'a [B],

@@ -120,7 +120,7 @@ impl NativeOrder for i64 {
 }
 
 // Two slices of numbers of one length: how the numbers at each place stand.
-#[derive(Clone, Copy)]
+#[derive(Drop)]
 struct NumberPairs<'a, T: NativeOrder> {
     left: &'a [T],
     right: &'a [T],

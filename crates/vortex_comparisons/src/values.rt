@@ -110,7 +110,7 @@ pub fn compare_truth_value(
     value: ValueRef<'_>,
     operator: CompareOperator,
 ) -> Result<BoolArray, AllocError>
-    requires { IsTrue (value_fits (bool_column left.now).dtype (value_seen value.entry)) }
+    requires { IsTrue (value_fits (bool_column left.now).dtype (value_seen value)) }
     ensures { IfOk result (λ a. bool_column a ≡ compared operator (bool_column left.now) (repeated dtype (value_seen value.entry) (length (bool_column left.now).rows))) }
 {
     match value {
@@ -130,7 +130,7 @@ pub fn compare_number_value(
     value: ValueRef<'_>,
     operator: CompareOperator,
 ) -> Result<BoolArray, AllocError>
-    requires { IsTrue (value_fits (primitive_column left.now).dtype (value_seen value.entry)) }
+    requires { IsTrue (value_fits (primitive_column left.now).dtype (value_seen value)) }
     ensures { IfOk result (λ a. bool_column a ≡ compared operator (primitive_column left.now) (repeated dtype (value_seen value.entry) (length (primitive_column left.now).rows))) }
 {
     match value {
@@ -150,7 +150,7 @@ pub fn compare_decimal_value(
     value: ValueRef<'_>,
     operator: CompareOperator,
 ) -> Result<BoolArray, AllocError>
-    requires { IsTrue (value_fits (decimal_column left.now).dtype (value_seen value.entry)) }
+    requires { IsTrue (value_fits (decimal_column left.now).dtype (value_seen value)) }
     ensures { IfOk result (λ a. bool_column a ≡ compared operator (decimal_column left.now) (repeated dtype (value_seen value.entry) (length (decimal_column left.now).rows))) }
 {
     match value {
@@ -170,7 +170,7 @@ pub fn compare_list_value(
     value: ValueRef<'_>,
     operator: CompareOperator,
 ) -> Result<BoolArray, AllocError>
-    requires { IsTrue (value_fits left.now.dtype (value_seen value.entry)) }
+    requires { IsTrue (value_fits left.now.dtype (value_seen value)) }
     ensures { IfOk result (λ a. bool_column a ≡ compared operator left.now (repeated dtype (value_seen value.entry) (length left.now.rows))) }
 {
     match value {

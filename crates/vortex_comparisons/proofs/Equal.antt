@@ -1,6 +1,7 @@
 -- Columns of one answer.
 use Rattle.std.proofs.Common.{ℕ, zero, suc, ◌≡◌, Bool, true, false, List, [], ◌∷◌, length, map, refl, sym, ap, ◌∙◌, Option, Some, None}
 use Rattle.std.specs.Prelude.{IsTrue, replicate}
+use Rattle.std.proofs.lemmas.Bool.{false≢true}
 use Rattle.std.proofs.lemmas.List.{length-replicate}
 use Rattle.vortex_types.specs.declared.types.Nullability.{Nullability}
 use Rattle.vortex_types.specs.declared.types.Nullability.TheVariants as nulls
@@ -9,7 +10,7 @@ use Rattle.vortex_types.specs.declared.types.DType.TheVariants as dtype
 use Rattle.vortex_types.specs.declared.scalar.Value.{Value}
 use Rattle.vortex_types.specs.declared.scalar.Value.TheVariants as value
 use Rattle.vortex_types.specs.Row.{value_fits}
-use Rattle.vortex_columns.specs.ByteRows.{bytes_value}
+use Rattle.vortex_columns.specs.ByteRows.{bytes_value, is_bytes_type}
 use Rattle.vortex_columns.specs.Kinds.{bool_column}
 use Rattle.vortex_columns.specs.Parts.{BoolParts}
 use Rattle.vortex_columns.specs.Truths.{truth_row, truths}
@@ -53,3 +54,35 @@ binary-value (dtype.Utf8 n) bytes e = absurd (cc e)
 binary-value (dtype.Bool n) bytes e = absurd (cc e)
 binary-value (dtype.Primitive p n) bytes e = absurd (cc e)
 binary-value (dtype.Decimal d n) bytes e = absurd (cc e)
+
+-- the value is a text or bytes
+abbrev pub bytes_kind : Value → Bool
+bytes_kind (value.Utf8 t) = true
+bytes_kind (value.Binary b) = true
+bytes_kind (value.Bool b) = false
+bytes_kind (value.Int n) = false
+bytes_kind (value.Decimal n) = false
+
+-- only texts and bytes fit a type of texts or bytes
+pub fits-kind : (t : DType) (v : Value) → IsTrue (is_bytes_type t) → IsTrue (value_fits t v) → IsTrue (bytes_kind v)
+fits-kind t (value.Utf8 b) k h = refl
+fits-kind t (value.Binary b) k h = refl
+fits-kind (dtype.Utf8 n) (value.Bool b) k h = absurd (cc h)
+fits-kind (dtype.Utf8 n) (value.Int b) k h = absurd (cc h)
+fits-kind (dtype.Utf8 n) (value.Decimal b) k h = absurd (cc h)
+fits-kind (dtype.Binary n) (value.Bool b) k h = absurd (cc h)
+fits-kind (dtype.Binary n) (value.Int b) k h = absurd (cc h)
+fits-kind (dtype.Binary n) (value.Decimal b) k h = absurd (cc h)
+fits-kind (dtype.Bool n) (value.Bool b) k h = absurd (cc k)
+fits-kind (dtype.Bool n) (value.Int b) k h = absurd (cc k)
+fits-kind (dtype.Bool n) (value.Decimal b) k h = absurd (cc k)
+fits-kind (dtype.Primitive p n) (value.Bool b) k h = absurd (cc k)
+fits-kind (dtype.Primitive p n) (value.Int b) k h = absurd (cc k)
+fits-kind (dtype.Primitive p n) (value.Decimal b) k h = absurd (cc k)
+fits-kind (dtype.Decimal d n) (value.Bool b) k h = absurd (cc k)
+fits-kind (dtype.Decimal d n) (value.Int b) k h = absurd (cc k)
+fits-kind (dtype.Decimal d n) (value.Decimal b) k h = absurd (cc k)
+
+-- what is no text and no bytes does not fit such a type
+pub no-other : (t : DType) (v : Value) → IsTrue (is_bytes_type t) → IsTrue (value_fits t v) → bytes_kind v ≡ false → ⊥
+no-other t v k h e = false≢true (sym e ∙ fits-kind t v k h)

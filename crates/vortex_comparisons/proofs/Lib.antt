@@ -3,3 +3,4 @@ pub mod TurnedRound
 pub mod Equal
 pub mod ListSides
 pub mod OrderAnswers
+pub mod Pairs

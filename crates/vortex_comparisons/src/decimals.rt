@@ -38,10 +38,16 @@ impl<A: DecimalValue, B: DecimalValue> IndexedSource for UnscaledPairs<'_, A, B>
 
     #[inline(always)]
     fn get(&self, i: usize) -> Ordering {
-        let left = self.left[i].unscaled_value();
-        let right = self.right[i].unscaled_value();
-        left.cmp(&right)
+        order_of_items(self.left[i], self.right[i])
     }
+}
+
+// How the numbers of two items stand.
+#[inline(always)]
+fn order_of_items<A: DecimalValue, B: DecimalValue>(left: A, right: B) -> Ordering
+    ensures { result ≡ int_cmp (A.unscaled left) (B.unscaled right) }
+{
+    left.unscaled_value().cmp(&right.unscaled_value())
 }
 
 // A slice of unscaled numbers and one number: how each of them stands to it.

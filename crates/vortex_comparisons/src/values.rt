@@ -173,6 +173,7 @@ pub fn compare_list_value(
     requires { IsTrue (value_fits left.now.dtype (value_seen value)) }
     ensures { IfOk result (λ a. bool_column a ≡ compared operator left.now (repeated dtype (value_seen value.entry) (length left.now.rows))) }
 {
+    let _ = left.dtype();
     match value {
         ValueRef::Utf8(text) => {
             compare_lists_with(alloc, left, text.as_bytes(), nullability_of_type(dtype), operator)
@@ -180,6 +181,8 @@ pub fn compare_list_value(
         ValueRef::Binary(bytes) => {
             compare_lists_with(alloc, left, bytes, nullability_of_type(dtype), operator)
         }
-        _ => unreachable!(),
+        ValueRef::Bool(_) => unreachable!(),
+        ValueRef::Int(_) => unreachable!(),
+        ValueRef::Decimal(_) => unreachable!(),
     }
 }

@@ -20,11 +20,11 @@ answer_column-requires-clause-left c =
     rw long (long-lists c.args.left.now c.parts-parts.result.lists.now c.parts-parts.result.present.now c.in_ok-left_validity.left_validity parts)
 
 pub answer_column-requires-clause-right : goal.answer_column-requires-clause-right
-answer_column-requires-clause-right c = c.of_values-validity-validity.ensures.long (length c.in_ok-bits.bits)
+answer_column-requires-clause-right c = c.of_values-validity.ensures.long (length c.in_ok-bits.bits)
 
 pub returns : goal.returns
 returns c =
     let parts = list-parts c.args.left.now c.parts-parts.result.lists.now c.parts-parts.result.present.now c.in_ok-left_validity.left_validity c.dtype.result c.parts-parts.ensures.rows c.parts-parts.ensures.holds c.dtype.ensures.value c.in_ok-left_validity.ensures.long c.in_ok-left_validity.ensures.present c.in_ok-left_validity.ensures.nulls in
     lists-beside c.args.operator c.args.left.now c.parts-parts.result.lists.now c.parts-parts.result.present.now c.in_ok-left_validity.left_validity parts
-    (dtype.Binary c.args.nullability) c.of_values-validity-validity.result c.of_values-validity-validity.ensures.present c.of_values-validity-validity.ensures.long c.of_values-validity-validity.ensures.kind c.args.constant.now
+    (dtype.Binary c.args.nullability) c.of_values-validity.result c.of_values-validity.ensures.present c.of_values-validity.ensures.long c.of_values-validity.ensures.kind c.args.constant.now
     c.in_ok-column.column (c.in_ok-column.ensures.bits ∙ c.in_ok-bits.ensures) c.in_ok-column.ensures.valid

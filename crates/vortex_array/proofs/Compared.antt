@@ -2,24 +2,22 @@
 use Rattle.std.proofs.Common.{ℕ, zero, suc, ◌≡◌, ◌==◌, Bool, true, false, ◌&&◌, List, [], ◌∷◌, length, map, refl, sym, ap, ◌∙◌, Option, None, Some}
 use Rattle.std.specs.Prelude.{IsTrue, replicate, option_map}
 use Rattle.std.specs.Simd.Lanes.{zip2}
-use Rattle.std.proofs.lemmas.Bool.Decides.{Decides-eqb}
+use Rattle.std.proofs.lemmas.Bool.{false≢true}
 use Rattle.std.proofs.lemmas.List.{length-map, length-replicate}
 use Rattle.std.proofs.lemmas.Simd.{length-zip2, zip2_splat}
 use Rattle.vortex_buffer.proofs.Bits.{map-replicate}
 use Rattle.vortex_compute.specs.declared.compare.CompareOperator.{CompareOperator}
 use Rattle.vortex_types.specs.Order.{compares}
-use Rattle.vortex_types.specs.Row.{Column, fits_type, in_width, is_nullable, nullability, value_fits}
+use Rattle.vortex_types.specs.Row.{Column, fits_type, is_nullable, nullability}
 use Rattle.vortex_types.specs.Truth.{both, all_three, lies_between, lower_operator, upper_operator}
-use Rattle.vortex_types.specs.Typed.{same_apart_from_nullability, width_number}
+use Rattle.vortex_types.specs.Typed.{same_apart_from_nullability}
 use Rattle.vortex_types.specs.declared.filter.BetweenOptions.{BetweenOptions}
 use Rattle.vortex_types.specs.declared.types.DType.{DType}
 use Rattle.vortex_types.specs.declared.types.DType.TheVariants as dtype
 use Rattle.vortex_types.specs.declared.types.Nullability.{Nullability}
 use Rattle.vortex_types.specs.declared.types.Nullability.TheVariants as nulls
-use Rattle.vortex_types.specs.declared.types.PType.{PType}
-use Rattle.vortex_types.specs.declared.types.PType.TheVariants as width
 use Rattle.vortex_types.specs.declared.scalar.Value.{Value}
-use Rattle.vortex_types.specs.declared.scalar.Value.TheVariants as value
+use Rattle.vortex_columns.specs.ByteRows.{is_bytes_type}
 use Rattle.vortex_columns.specs.Kinds.{constant_column}
 use Rattle.vortex_columns.specs.Parts.{ConstantParts}
 use Rattle.vortex_columns.specs.Truths.{answer_in, answers, both_true, bounded, compared, either, either_column, joined_strictly, truth_row, truths}
@@ -115,78 +113,38 @@ between-joined options x lower upper =
     ∙ ap (λ given. truths kind (zip2 both_true above given)) (answers-back below)
     ∙ ap (truths kind) (between_rows options x.rows lower.rows upper.rows)
 
-width_at : ℕ → PType
-width_at 0 = width.U8
-width_at 1 = width.U16
-width_at 2 = width.U32
-width_at 3 = width.U64
-width_at 4 = width.I8
-width_at 5 = width.I16
-width_at 6 = width.I32
-width_at n = width.I64
+-- types that are the same apart from nullability are both types of texts or bytes, or neither is
+pub alike-bytes : (t u : DType) → IsTrue (same_apart_from_nullability t u) → is_bytes_type t ≡ is_bytes_type u
+alike-bytes (dtype.Bool m) (dtype.Bool n) e = refl
+alike-bytes (dtype.Bool m) (dtype.Primitive q n) e = refl
+alike-bytes (dtype.Bool m) (dtype.Decimal d n) e = refl
+alike-bytes (dtype.Bool m) (dtype.Utf8 n) e = absurd (cc e)
+alike-bytes (dtype.Bool m) (dtype.Binary n) e = absurd (cc e)
+alike-bytes (dtype.Primitive p m) (dtype.Bool n) e = refl
+alike-bytes (dtype.Primitive p m) (dtype.Primitive q n) e = refl
+alike-bytes (dtype.Primitive p m) (dtype.Decimal d n) e = refl
+alike-bytes (dtype.Primitive p m) (dtype.Utf8 n) e = absurd (cc e)
+alike-bytes (dtype.Primitive p m) (dtype.Binary n) e = absurd (cc e)
+alike-bytes (dtype.Decimal d m) (dtype.Bool n) e = refl
+alike-bytes (dtype.Decimal d m) (dtype.Primitive q n) e = refl
+alike-bytes (dtype.Decimal d m) (dtype.Decimal f n) e = refl
+alike-bytes (dtype.Decimal d m) (dtype.Utf8 n) e = absurd (cc e)
+alike-bytes (dtype.Decimal d m) (dtype.Binary n) e = absurd (cc e)
+alike-bytes (dtype.Utf8 m) (dtype.Bool n) e = absurd (cc e)
+alike-bytes (dtype.Utf8 m) (dtype.Primitive q n) e = absurd (cc e)
+alike-bytes (dtype.Utf8 m) (dtype.Decimal d n) e = absurd (cc e)
+alike-bytes (dtype.Utf8 m) (dtype.Utf8 n) e = refl
+alike-bytes (dtype.Utf8 m) (dtype.Binary n) e = refl
+alike-bytes (dtype.Binary m) (dtype.Bool n) e = absurd (cc e)
+alike-bytes (dtype.Binary m) (dtype.Primitive q n) e = absurd (cc e)
+alike-bytes (dtype.Binary m) (dtype.Decimal d n) e = absurd (cc e)
+alike-bytes (dtype.Binary m) (dtype.Utf8 n) e = refl
+alike-bytes (dtype.Binary m) (dtype.Binary n) e = refl
 
-width_back : (p : PType) → width_at (width_number p) ≡ p
-width_back width.U8 = refl
-width_back width.U16 = refl
-width_back width.U32 = refl
-width_back width.U64 = refl
-width_back width.I8 = refl
-width_back width.I16 = refl
-width_back width.I32 = refl
-width_back width.I64 = refl
+-- so no column of texts or bytes has the type of another kind
+pub no-bytes : (t u : DType) → IsTrue (same_apart_from_nullability t u) → IsTrue (is_bytes_type u) → is_bytes_type t ≡ false → ⊥
+no-bytes t u e k f = false≢true (sym f ∙ alike-bytes t u e ∙ k)
 
--- widths of one number are one width
-pub same-width : (p q : PType) → IsTrue (width_number p == width_number q) → p ≡ q
-same-width p q e = sym (width_back p) ∙ ap width_at ((Decides-eqb (width_number p) (width_number q)).0 e) ∙ width_back q
-
--- a value fits a type where it fits one that is the same apart from nullability
-pub fits-alike : (t u : DType) (v : Value) → IsTrue (same_apart_from_nullability t u) → IsTrue (value_fits u v) → IsTrue (value_fits t v)
-fits-alike (dtype.Bool m) (dtype.Bool n) (value.Bool b) e h = refl
-fits-alike (dtype.Bool m) (dtype.Bool n) (value.Int b) e h = absurd (cc h)
-fits-alike (dtype.Bool m) (dtype.Bool n) (value.Decimal b) e h = absurd (cc h)
-fits-alike (dtype.Bool m) (dtype.Bool n) (value.Utf8 b) e h = absurd (cc h)
-fits-alike (dtype.Bool m) (dtype.Bool n) (value.Binary b) e h = absurd (cc h)
-fits-alike (dtype.Bool m) (dtype.Primitive q n) v e h = absurd (cc e)
-fits-alike (dtype.Bool m) (dtype.Decimal d n) v e h = absurd (cc e)
-fits-alike (dtype.Bool m) (dtype.Utf8 n) v e h = absurd (cc e)
-fits-alike (dtype.Bool m) (dtype.Binary n) v e h = absurd (cc e)
-fits-alike (dtype.Primitive p m) (dtype.Bool n) v e h = absurd (cc e)
-fits-alike (dtype.Primitive p m) (dtype.Primitive q n) v e h =
-    ap (λ w. value_fits (dtype.Primitive w m) v) (same-width p q e) ∙ fits_width q m n v h
-  where
-    fits_width : (q : PType) (m n : Nullability) (v : Value) → IsTrue (value_fits (dtype.Primitive q n) v) → IsTrue (value_fits (dtype.Primitive q m) v)
-    fits_width q m n (value.Int b) h = h
-    fits_width q m n (value.Bool b) h = absurd (cc h)
-    fits_width q m n (value.Decimal b) h = absurd (cc h)
-    fits_width q m n (value.Utf8 b) h = absurd (cc h)
-    fits_width q m n (value.Binary b) h = absurd (cc h)
-fits-alike (dtype.Primitive p m) (dtype.Decimal d n) v e h = absurd (cc e)
-fits-alike (dtype.Primitive p m) (dtype.Utf8 n) v e h = absurd (cc e)
-fits-alike (dtype.Primitive p m) (dtype.Binary n) v e h = absurd (cc e)
-fits-alike (dtype.Decimal d m) (dtype.Bool n) v e h = absurd (cc e)
-fits-alike (dtype.Decimal d m) (dtype.Primitive q n) v e h = absurd (cc e)
-fits-alike (dtype.Decimal d m) (dtype.Decimal f n) (value.Decimal b) e h = refl
-fits-alike (dtype.Decimal d m) (dtype.Decimal f n) (value.Bool b) e h = absurd (cc h)
-fits-alike (dtype.Decimal d m) (dtype.Decimal f n) (value.Int b) e h = absurd (cc h)
-fits-alike (dtype.Decimal d m) (dtype.Decimal f n) (value.Utf8 b) e h = absurd (cc h)
-fits-alike (dtype.Decimal d m) (dtype.Decimal f n) (value.Binary b) e h = absurd (cc h)
-fits-alike (dtype.Decimal d m) (dtype.Utf8 n) v e h = absurd (cc e)
-fits-alike (dtype.Decimal d m) (dtype.Binary n) v e h = absurd (cc e)
-fits-alike (dtype.Utf8 m) (dtype.Bool n) v e h = absurd (cc e)
-fits-alike (dtype.Utf8 m) (dtype.Primitive q n) v e h = absurd (cc e)
-fits-alike (dtype.Utf8 m) (dtype.Decimal d n) v e h = absurd (cc e)
-fits-alike (dtype.Utf8 m) (dtype.Utf8 n) (value.Utf8 b) e h = refl
-fits-alike (dtype.Utf8 m) (dtype.Utf8 n) (value.Bool b) e h = absurd (cc h)
-fits-alike (dtype.Utf8 m) (dtype.Utf8 n) (value.Int b) e h = absurd (cc h)
-fits-alike (dtype.Utf8 m) (dtype.Utf8 n) (value.Decimal b) e h = absurd (cc h)
-fits-alike (dtype.Utf8 m) (dtype.Utf8 n) (value.Binary b) e h = absurd (cc h)
-fits-alike (dtype.Utf8 m) (dtype.Binary n) v e h = absurd (cc e)
-fits-alike (dtype.Binary m) (dtype.Bool n) v e h = absurd (cc e)
-fits-alike (dtype.Binary m) (dtype.Primitive q n) v e h = absurd (cc e)
-fits-alike (dtype.Binary m) (dtype.Decimal d n) v e h = absurd (cc e)
-fits-alike (dtype.Binary m) (dtype.Utf8 n) v e h = absurd (cc e)
-fits-alike (dtype.Binary m) (dtype.Binary n) (value.Binary b) e h = refl
-fits-alike (dtype.Binary m) (dtype.Binary n) (value.Bool b) e h = absurd (cc h)
-fits-alike (dtype.Binary m) (dtype.Binary n) (value.Int b) e h = absurd (cc h)
-fits-alike (dtype.Binary m) (dtype.Binary n) (value.Decimal b) e h = absurd (cc h)
-fits-alike (dtype.Binary m) (dtype.Binary n) (value.Utf8 b) e h = absurd (cc h)
+-- nor the other way round
+pub no-other-kind : (t u : DType) → IsTrue (same_apart_from_nullability t u) → IsTrue (is_bytes_type t) → is_bytes_type u ≡ false → ⊥
+no-other-kind t u e k f = false≢true (sym f ∙ sym (alike-bytes t u e) ∙ k)

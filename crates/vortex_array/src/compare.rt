@@ -9,11 +9,13 @@ ghost use Rattle.vortex_types.specs.declared.types.Nullability.TheVariants.{Null
 ghost use Rattle.vortex_columns.specs.Truths.{bounded, compared, either, truths};
 ghost use Rattle.vortex_comparisons.specs.Repeated.{repeated};
 ghost use Rattle.vortex_comparisons.specs.Turned.{turned};
-ghost use Rattle.vortex_array.specs.ColumnOf.{bool_column, column_of, is_plain, constant_column};
+ghost use Rattle.vortex_array.specs.ColumnOf.{bool_column, column_of, constant_column, decimal_column, is_plain, primitive_column};
 
 use crate::arrays::Array;
 use std::alloc::{AllocError, Global};
-use vortex_columns::{BoolArray, ConstantArray};
+use vortex_columns::{
+    BoolArray, ConstantArray, DecimalArray, PrimitiveArray, VarBinViewArray,
+};
 use vortex_comparisons::{
     compare_decimal_value, compare_decimals, compare_list_value, compare_lists,
     compare_number_value, compare_numbers, compare_truth_value, compare_truths, compare_values,
@@ -96,21 +98,106 @@ fn compare_plain(
     requires plain { IsTrue (is_plain right.now) }
     ensures { IfOk result (λ a. bool_column a ≡ compared operator (column_of left.now) (column_of right.now)) }
 {
-    match (left, right) {
-        (Array::Constant(constant), _) => {
-            compare_constant(alloc, right, constant, turned_operator(operator))
+    match left {
+        Array::Constant(left) => compare_constant(alloc, right, left, turned_operator(operator)),
+        Array::Bool(left) => compare_with_truths(alloc, left, right, operator),
+        Array::Primitive(left) => compare_with_numbers(alloc, left, right, operator),
+        Array::Decimal(left) => compare_with_decimals(alloc, left, right, operator),
+        Array::VarBinView(left) => compare_with_lists(alloc, left, right, operator),
+    }
+}
+
+// Truth values compared with a column of their kind.
+fn compare_with_truths(
+    alloc: Global,
+    left: &BoolArray,
+    right: &Array,
+    operator: CompareOperator,
+) -> Result<BoolArray, AllocError>
+    requires same_length { length (bool_column left.now).rows ≡ length (column_of right.now).rows }
+    requires same_type { IsTrue (same_apart_from_nullability (bool_column left.now).dtype (column_of right.now).dtype) }
+    requires plain { IsTrue (is_plain right.now) }
+    ensures { IfOk result (λ a. bool_column a ≡ compared operator (bool_column left.now) (column_of right.now)) }
+{
+    match right {
+        Array::Bool(right) => compare_truths(alloc, left, right, operator),
+        Array::Primitive(_) => unreachable!(),
+        Array::Decimal(_) => unreachable!(),
+        Array::VarBinView(right) => {
+            let _ = right.dtype();
+            unreachable!()
         }
-        (Array::Bool(left), Array::Bool(right)) => compare_truths(alloc, left, right, operator),
-        (Array::Primitive(left), Array::Primitive(right)) => {
-            compare_numbers(alloc, left, right, operator)
+        Array::Constant(_) => unreachable!(),
+    }
+}
+
+// Whole numbers compared with a column of their width.
+fn compare_with_numbers(
+    alloc: Global,
+    left: &PrimitiveArray,
+    right: &Array,
+    operator: CompareOperator,
+) -> Result<BoolArray, AllocError>
+    requires same_length { length (primitive_column left.now).rows ≡ length (column_of right.now).rows }
+    requires same_type { IsTrue (same_apart_from_nullability (primitive_column left.now).dtype (column_of right.now).dtype) }
+    requires plain { IsTrue (is_plain right.now) }
+    ensures { IfOk result (λ a. bool_column a ≡ compared operator (primitive_column left.now) (column_of right.now)) }
+{
+    match right {
+        Array::Bool(_) => unreachable!(),
+        Array::Primitive(right) => compare_numbers(alloc, left, right, operator),
+        Array::Decimal(_) => unreachable!(),
+        Array::VarBinView(right) => {
+            let _ = right.dtype();
+            unreachable!()
         }
-        (Array::Decimal(left), Array::Decimal(right)) => {
-            compare_decimals(alloc, left, right, operator)
+        Array::Constant(_) => unreachable!(),
+    }
+}
+
+// Decimals compared with a column of their kind.
+fn compare_with_decimals(
+    alloc: Global,
+    left: &DecimalArray,
+    right: &Array,
+    operator: CompareOperator,
+) -> Result<BoolArray, AllocError>
+    requires same_length { length (decimal_column left.now).rows ≡ length (column_of right.now).rows }
+    requires same_type { IsTrue (same_apart_from_nullability (decimal_column left.now).dtype (column_of right.now).dtype) }
+    requires plain { IsTrue (is_plain right.now) }
+    ensures { IfOk result (λ a. bool_column a ≡ compared operator (decimal_column left.now) (column_of right.now)) }
+{
+    match right {
+        Array::Bool(_) => unreachable!(),
+        Array::Primitive(_) => unreachable!(),
+        Array::Decimal(right) => compare_decimals(alloc, left, right, operator),
+        Array::VarBinView(right) => {
+            let _ = right.dtype();
+            unreachable!()
         }
-        (Array::VarBinView(left), Array::VarBinView(right)) => {
-            compare_lists(alloc, left, right, operator)
-        }
-        _ => unreachable!(),
+        Array::Constant(_) => unreachable!(),
+    }
+}
+
+// Texts or bytes compared with a column of their kind.
+fn compare_with_lists(
+    alloc: Global,
+    left: &VarBinViewArray,
+    right: &Array,
+    operator: CompareOperator,
+) -> Result<BoolArray, AllocError>
+    requires same_length { length left.now.rows ≡ length (column_of right.now).rows }
+    requires same_type { IsTrue (same_apart_from_nullability left.now.dtype (column_of right.now).dtype) }
+    requires plain { IsTrue (is_plain right.now) }
+    ensures { IfOk result (λ a. bool_column a ≡ compared operator left.now (column_of right.now)) }
+{
+    let _ = left.dtype();
+    match right {
+        Array::Bool(_) => unreachable!(),
+        Array::Primitive(_) => unreachable!(),
+        Array::Decimal(_) => unreachable!(),
+        Array::VarBinView(right) => compare_lists(alloc, left, right, operator),
+        Array::Constant(_) => unreachable!(),
     }
 }
 

@@ -13,9 +13,7 @@ ghost use Rattle.vortex_array.specs.ColumnOf.{bool_column, column_of, constant_c
 
 use crate::arrays::Array;
 use std::alloc::{AllocError, Global};
-use vortex_columns::{
-    BoolArray, ConstantArray, DecimalArray, PrimitiveArray, VarBinViewArray,
-};
+use vortex_columns::{BoolArray, ConstantArray, DecimalArray, PrimitiveArray, VarBinViewArray};
 use vortex_comparisons::{
     compare_decimal_value, compare_decimals, compare_list_value, compare_lists,
     compare_number_value, compare_numbers, compare_truth_value, compare_truths, compare_values,

@@ -37,12 +37,7 @@ impl Validity {
     }
 
     /// That of rows which are null where a row of one of two columns is, each of so many rows.
-    pub fn both(
-        &self,
-        alloc: Global,
-        other: &Validity,
-        len: usize,
-    ) -> Result<Validity, AllocError>
+    pub fn both(&self, alloc: Global, other: &Validity, len: usize) -> Result<Validity, AllocError>
         requires self_long { IsTrue (is_as_long self.now len) }
         requires other_long { IsTrue (is_as_long other.now len) }
         ensures { IfOk result (λ v. BothValid len self.now other.now v) }

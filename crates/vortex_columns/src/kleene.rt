@@ -111,7 +111,13 @@ fn known_where(
     }
     let left_valid = left.to_bits(alloc, len)?;
     let right_valid = right.to_bits(alloc, len)?;
-    let bits = known_bits(alloc, &left_valid, left_decides, &right_valid, right_decides)?;
+    let bits = known_bits(
+        alloc,
+        &left_valid,
+        left_decides,
+        &right_valid,
+        right_decides,
+    )?;
     Ok(Validity::Bits(bits))
 }
 

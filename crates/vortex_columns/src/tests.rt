@@ -94,6 +94,9 @@ fn a_negation_keeps_nulls_and_a_true_mask_drops_them(rt: HostRuntime) -> Result<
     let alloc = rt.alloc();
     let rows = three_rows(alloc, 0b011, 0b101)?;
     assert_eq!(rt; text_of(alloc, &rows.negate(alloc)?)?.as_str(), "0-1");
-    assert_eq!(rt; text_of_mask(alloc, &rows.true_mask(alloc)?)?.as_str(), "100");
+    assert_eq!(rt;
+        text_of_mask(alloc, &rows.true_mask(alloc)?)?.as_str(),
+        "100"
+    );
     Ok(())
 }

@@ -11,9 +11,8 @@ ghost use Rattle.vortex_columns.specs.declared.var_bin.PushError.TheVariants.{No
 
 mod parts;
 
-pub use parts::{ByteParts, validity_of_rows};
-
 use crate::validity::row_if;
+pub use parts::{ByteParts, validity_of_rows};
 use std::alloc::{AllocError, Global};
 use std::marker::Model;
 use vortex_buffer::{BitBuffer, Mask};

@@ -176,7 +176,13 @@ pub fn compare_list_value(
     let _ = left.dtype();
     match value {
         ValueRef::Utf8(text) => {
-            compare_lists_with(alloc, left, text.as_bytes(), nullability_of_type(dtype), operator)
+            compare_lists_with(
+                alloc,
+                left,
+                text.as_bytes(),
+                nullability_of_type(dtype),
+                operator,
+            )
         }
         ValueRef::Binary(bytes) => {
             compare_lists_with(alloc, left, bytes, nullability_of_type(dtype), operator)

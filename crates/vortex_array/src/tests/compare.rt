@@ -81,11 +81,7 @@ fn text_of(alloc: Global, array: &BoolArray) -> Result<String, AllocError> {
 }
 
 // The rows 3, null and 1 compared with a number, as text.
-fn compared(
-    alloc: Global,
-    operator: CompareOperator,
-    number: i128,
-) -> Result<String, AllocError> {
+fn compared(alloc: Global, operator: CompareOperator, number: i128) -> Result<String, AllocError> {
     let rows = three_null_one(alloc)?;
     let number = three_times(number)?;
     answers_of(alloc, &rows, &number, operator)
@@ -127,8 +123,14 @@ fn numbers_are_compared_with_a_constant(rt: HostRuntime) -> Result<(), Fail> {
     assert_eq!(rt; compared(alloc, CompareOperator::Lte, 3)?.as_str(), "1-1");
     assert_eq!(rt; compared(alloc, CompareOperator::Eq, 3)?.as_str(), "1-0");
     assert_eq!(rt; compared(alloc, CompareOperator::NotEq, 3)?.as_str(), "0-1");
-    assert_eq!(rt; compared_turned(alloc, CompareOperator::Gt, 1)?.as_str(), "0-0");
-    assert_eq!(rt; compared_turned(alloc, CompareOperator::Lt, 1)?.as_str(), "1-0");
+    assert_eq!(rt;
+        compared_turned(alloc, CompareOperator::Gt, 1)?.as_str(),
+        "0-0"
+    );
+    assert_eq!(rt;
+        compared_turned(alloc, CompareOperator::Lt, 1)?.as_str(),
+        "1-0"
+    );
     Ok(())
 }
 

@@ -19,18 +19,18 @@ validity_of_rows-requires-2 c = rw c.dtype-2.ensures.value c.parts-right_parts.e
 pub pair_bits-requires : goal.pair_bits-requires
 pair_bits-requires c =
     let same : length c.parts-left_parts.result.lists.now ≡ length c.parts-right_parts.result.lists.now =
-        sym (length-lists c.args.left.now c.parts-left_parts.result.lists.now c.parts-left_parts.result.present.now c.parts-left_parts.ensures.rows c.parts-left_parts.ensures.holds)
-        ∙ c.requires.same_length
-        ∙ length-lists c.args.right.now c.parts-right_parts.result.lists.now c.parts-right_parts.result.present.now c.parts-right_parts.ensures.rows c.parts-right_parts.ensures.holds
+    sym (length-lists c.args.left.now c.parts-left_parts.result.lists.now c.parts-left_parts.result.present.now c.parts-left_parts.ensures.rows c.parts-left_parts.ensures.holds)
+    ∙ c.requires.same_length
+    ∙ length-lists c.args.right.now c.parts-right_parts.result.lists.now c.parts-right_parts.result.present.now c.parts-right_parts.ensures.rows c.parts-right_parts.ensures.holds
     in
     same
 
 pub answer_column-requires-clause-left : goal.answer_column-requires-clause-left
 answer_column-requires-clause-left c =
     let same : length c.parts-left_parts.result.lists.now ≡ length c.parts-right_parts.result.lists.now =
-        sym (length-lists c.args.left.now c.parts-left_parts.result.lists.now c.parts-left_parts.result.present.now c.parts-left_parts.ensures.rows c.parts-left_parts.ensures.holds)
-        ∙ c.requires.same_length
-        ∙ length-lists c.args.right.now c.parts-right_parts.result.lists.now c.parts-right_parts.result.present.now c.parts-right_parts.ensures.rows c.parts-right_parts.ensures.holds
+    sym (length-lists c.args.left.now c.parts-left_parts.result.lists.now c.parts-left_parts.result.present.now c.parts-left_parts.ensures.rows c.parts-left_parts.ensures.holds)
+    ∙ c.requires.same_length
+    ∙ length-lists c.args.right.now c.parts-right_parts.result.lists.now c.parts-right_parts.result.present.now c.parts-right_parts.ensures.rows c.parts-right_parts.ensures.holds
     in
     let long = length-answers (slice_cmp nat_cmp) c.args.operator c.parts-left_parts.result.lists.now c.parts-right_parts.result.lists.now c.in_ok-bits.bits same c.in_ok-bits.ensures in
     let parts = list-parts c.args.left.now c.parts-left_parts.result.lists.now c.parts-left_parts.result.present.now c.in_ok-left_validity.left_validity c.dtype.result c.parts-left_parts.ensures.rows c.parts-left_parts.ensures.holds c.dtype.ensures.value c.in_ok-left_validity.ensures.long c.in_ok-left_validity.ensures.present c.in_ok-left_validity.ensures.nulls in
@@ -39,9 +39,9 @@ answer_column-requires-clause-left c =
 pub answer_column-requires-clause-right : goal.answer_column-requires-clause-right
 answer_column-requires-clause-right c =
     let same : length c.parts-left_parts.result.lists.now ≡ length c.parts-right_parts.result.lists.now =
-        sym (length-lists c.args.left.now c.parts-left_parts.result.lists.now c.parts-left_parts.result.present.now c.parts-left_parts.ensures.rows c.parts-left_parts.ensures.holds)
-        ∙ c.requires.same_length
-        ∙ length-lists c.args.right.now c.parts-right_parts.result.lists.now c.parts-right_parts.result.present.now c.parts-right_parts.ensures.rows c.parts-right_parts.ensures.holds
+    sym (length-lists c.args.left.now c.parts-left_parts.result.lists.now c.parts-left_parts.result.present.now c.parts-left_parts.ensures.rows c.parts-left_parts.ensures.holds)
+    ∙ c.requires.same_length
+    ∙ length-lists c.args.right.now c.parts-right_parts.result.lists.now c.parts-right_parts.result.present.now c.parts-right_parts.ensures.rows c.parts-right_parts.ensures.holds
     in
     let long = length-answers (slice_cmp nat_cmp) c.args.operator c.parts-left_parts.result.lists.now c.parts-right_parts.result.lists.now c.in_ok-bits.bits same c.in_ok-bits.ensures in
     let parts = list-parts c.args.right.now c.parts-right_parts.result.lists.now c.parts-right_parts.result.present.now c.in_ok-right_validity.right_validity c.dtype-2.result c.parts-right_parts.ensures.rows c.parts-right_parts.ensures.holds c.dtype-2.ensures.value c.in_ok-right_validity.ensures.long c.in_ok-right_validity.ensures.present c.in_ok-right_validity.ensures.nulls in

@@ -29,7 +29,7 @@ returns c =
     let a : BoolParts = c.args.self.now in
     let b : BoolParts = c.args.other.now in
     let valid : BothValid (length a.bits) a.validity b.validity c.in_ok-validity.validity =
-        rw (c.validity-left.ensures.value, c.validity-right.ensures.value, c.len.ensures, c.bits.ensures) at c.in_ok-validity.ensures in
+    rw (c.validity-left.ensures.value, c.validity-right.ensures.value, c.len.ensures, c.bits.ensures) at c.in_ok-validity.ensures in
     strict-made a b c.in_ok-validity.validity c.in_ok-bits.bits c.from_parts.result
     c.validity-left.ensures.fits c.validity-right.ensures.fits c.requires.same_length
     valid

@@ -35,7 +35,7 @@ returns c =
     let a : BoolParts = c.args.self.now in
     let b : BoolParts = c.args.other.now in
     let known : KnownWhere (length c.in_ok-left_decides.left_decides) a.validity c.in_ok-left_decides.left_decides b.validity c.in_ok-right_decides.right_decides c.in_ok-validity.validity =
-        rw (c.validity-left.ensures.value, c.validity-right.ensures.value) at c.in_ok-validity.ensures in
+    rw (c.validity-left.ensures.value, c.validity-right.ensures.value) at c.in_ok-validity.ensures in
     and-made a b c.in_ok-left_decides.left_decides c.in_ok-right_decides.right_decides c.in_ok-validity.validity c.in_ok-bits.bits c.from_parts.result
     c.validity-left.ensures.fits c.validity-right.ensures.fits c.requires.same_length
     (c.in_ok-left_decides.ensures ∙ ap (map not) c.bits.ensures)

@@ -29,7 +29,7 @@ returns c =
     let a : BoolParts = c.args.self.now in
     let b : BoolParts = c.args.other.now in
     let known : KnownWhere (length a.bits) a.validity a.bits b.validity b.bits c.in_ok-validity.validity =
-        rw (c.validity-left.ensures.value, c.validity-right.ensures.value, c.bits.ensures, c.bits-2.ensures) at c.in_ok-validity.ensures in
+    rw (c.validity-left.ensures.value, c.validity-right.ensures.value, c.bits.ensures, c.bits-2.ensures) at c.in_ok-validity.ensures in
     or-made a b c.in_ok-validity.validity c.in_ok-bits.bits c.from_parts.result
     c.validity-left.ensures.fits c.validity-right.ensures.fits c.requires.same_length
     known

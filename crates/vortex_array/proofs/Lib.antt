@@ -1,2 +1,3 @@
 pub mod TakenAt
 pub mod Heads
+pub mod Compared

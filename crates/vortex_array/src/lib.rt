@@ -4,6 +4,7 @@
 
 mod arrays;
 mod batch;
+mod compare;
 mod select;
 mod single;
 mod take;

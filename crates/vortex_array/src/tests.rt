@@ -1,1 +1,3 @@
+// Calls on columns of any kind, by worked rows.
+mod compare;
 mod selecting;

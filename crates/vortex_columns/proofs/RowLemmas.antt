@@ -15,7 +15,7 @@ use Rattle.vortex_columns.specs.declared.validity.Validity.TheVariants.{NonNulla
 use Rattle.std.proofs.lemmas.Bool.Decides.{Decides-eqb}
 
 -- bits of the length asked for have it
-long_bits : (bits : List Bool) (n : ℕ) → IsTrue (length bits == n) → length bits ≡ n
+pub long_bits : (bits : List Bool) (n : ℕ) → IsTrue (length bits == n) → length bits ≡ n
 long_bits bits n e = (Decides-eqb (length bits) n).0 e
 
 -- there are as many rows as values

@@ -6,3 +6,6 @@ pub mod ByteRows
 pub mod Pushed
 pub mod Selected
 pub mod SelectedParts
+pub mod Truths
+pub mod Known
+pub mod TruthLaws

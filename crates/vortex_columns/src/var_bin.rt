@@ -9,7 +9,10 @@ ghost use Rattle.vortex_columns.specs.Validities.{row_of};
 ghost use Rattle.vortex_columns.specs.Pushed.{Admits, Refuses};
 ghost use Rattle.vortex_columns.specs.declared.var_bin.PushError.TheVariants.{NotUtf8};
 
+mod parts;
+
 use crate::validity::row_if;
+pub use parts::{ByteParts, validity_of_rows};
 use std::alloc::{AllocError, Global};
 use std::marker::Model;
 use vortex_buffer::{BitBuffer, Mask};

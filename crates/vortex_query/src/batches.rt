@@ -91,19 +91,16 @@ fn write_copied(
 }
 
 // Writes a row for each row of an array.
-fn write_array(
-    alloc: Global,
-    writer: &mut Writer<Vec<u8>>,
-    array: &Array,
-) -> Result<(), AllocError>
+fn write_array(alloc: Global, writer: &mut Writer<Vec<u8>>, array: &Array) -> Result<(), AllocError>
     requires { (column_of array.now).dtype ≡ u64_type }
     ensures { OnOk result ((columns : List ColumnDesc) → IsOneU64Column columns → (written : List ℕ) → Holds (λ v. Some v.items) writer.old written
         → Holds (λ v. Some v.items) writer.new (written ++ flat_map (line_text columns) (map one_value (column_of array.now).rows))) }
 {
-    match lent_numbers(array) {
-        Some(numbers) => write_numbers(writer, numbers),
-        None => write_copied(alloc, writer, array),
+    if let Some(numbers) = lent_numbers(array) {
+        write_numbers(writer, numbers)?;
+        return Ok(());
     }
+    write_copied(alloc, writer, array)
 }
 
 /// The text of the batches' rows: a header, and a line for each row, as `csv` writes them with its default settings. Each batch

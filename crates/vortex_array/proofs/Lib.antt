@@ -1,2 +1,1 @@
-pub mod TakenAt
 pub mod Heads

@@ -5,8 +5,6 @@
 mod arrays;
 mod batch;
 mod select;
-mod single;
-mod take;
 
 pub use arrays::Array;
 pub use batch::RecordBatch;

@@ -1,3 +1,2 @@
-pub mod TakenAt
 pub mod Heads
 pub mod Compared

@@ -1,5 +1,3 @@
 pub mod ColumnOf
 pub mod Batch
 pub mod Head
-pub mod Single
-pub mod Index

@@ -217,14 +217,6 @@ impl VarBinViewArray {
 }
 
 impl VarBinViewArray {
-    // The lists of bytes, and which of them are present.
-    pub(crate) fn parts(&self) -> (&ByteLists, &[bool])
-        ensures rows { self.now.rows ≡ bytes_rows self.now.dtype result.0.now result.1.now }
-        ensures holds { HoldsBytes self.now.dtype result.0.now result.1.now }
-    {
-        (&self.lists, self.present.as_slice())
-    }
-
     // The column of these lists of bytes.
     pub(crate) fn from_parts(dtype: DType, lists: ByteLists, present: Vec<bool>) -> VarBinViewArray
         requires { HoldsBytes dtype lists present.items }

@@ -7,7 +7,7 @@ ghost use Rattle.vortex_columns.specs.Validities.{is_as_long};
 
 use crate::select::validities::take_values;
 use crate::validity::Validity;
-use crate::var_bin::VarBinViewArray;
+use crate::var_bin::{ByteParts, VarBinViewArray};
 use std::alloc::{AllocError, Global};
 use vortex_buffer::Mask;
 use vortex_rows::{ByteLists, Place, filter_items, slice_items};
@@ -25,14 +25,10 @@ impl VarBinViewArray {
         requires within { end ≤ length self.now.rows }
         ensures { IfOk result (λ part. part ≡ sliced start end self.now) }
     {
-        let (lists, present) = self.parts();
+        let ByteParts { lists, present } = self.parts();
         let part = lists.slice(alloc, start, end)?;
         let part_present = slice_items(alloc, present, start, end)?;
-        Ok(VarBinViewArray::from_parts(
-            self.dtype(),
-            part,
-            part_present.into_vec(),
-        ))
+        Ok(VarBinViewArray::from_parts(self.dtype(), part, part_present.into_vec()))
     }
 
     /// The rows that the mask keeps, in their order.
@@ -40,14 +36,10 @@ impl VarBinViewArray {
         requires { length (mask_bits mask.now) ≡ length self.now.rows }
         ensures { IfOk result (λ kept. kept ≡ filtered (mask_bits mask.now) self.now) }
     {
-        let (lists, present) = self.parts();
+        let ByteParts { lists, present } = self.parts();
         let kept = lists.filter(alloc, mask)?;
         let kept_present = filter_items(alloc, present, mask)?;
-        Ok(VarBinViewArray::from_parts(
-            self.dtype(),
-            kept,
-            kept_present.into_vec(),
-        ))
+        Ok(VarBinViewArray::from_parts(self.dtype(), kept, kept_present.into_vec()))
     }
 
     /// The rows at the places, in the order of the places; null where a place is null. A place may come again, and one
@@ -62,7 +54,7 @@ impl VarBinViewArray {
         requires within { PlacesBelow (length self.now.rows) nulls.now (map P.place places.now) }
         ensures { IfOk result (λ part. part ≡ taken (index_column nulls.now (map P.place places.now)) self.now) }
     {
-        let (lists, present) = self.parts();
+        let ByteParts { lists, present } = self.parts();
         let taken = take_lists(alloc, lists, places, nulls)?;
         let taken_present = take_values(alloc, present, places, nulls, false)?;
         Ok(VarBinViewArray::from_parts(

@@ -4,6 +4,8 @@
 
 mod arrays;
 mod batch;
+#[cfg(test)]
+mod tests;
 
 pub use arrays::Array;
 pub use batch::RecordBatch;

@@ -6,6 +6,8 @@ mod bools;
 mod constant;
 mod decimal;
 mod primitive;
+#[cfg(test)]
+mod tests;
 mod validity;
 mod var_bin;
 

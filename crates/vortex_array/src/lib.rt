@@ -5,6 +5,8 @@
 mod arrays;
 mod batch;
 mod select;
+mod single;
+mod take;
 
 pub use arrays::Array;
 pub use batch::RecordBatch;

@@ -6,6 +6,8 @@ mod arrays;
 mod batch;
 mod compare;
 mod select;
+mod single;
+mod take;
 
 pub use arrays::Array;
 pub use batch::RecordBatch;

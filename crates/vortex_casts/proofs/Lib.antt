@@ -1,0 +1,4 @@
+pub mod Converted
+pub mod CastRows
+pub mod CastPlain
+pub mod CastNumbers

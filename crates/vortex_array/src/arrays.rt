@@ -5,14 +5,10 @@ ghost use Rattle.vortex_types.specs.Row.{fits_type};
 ghost use Rattle.vortex_types.specs.Seen.{value_seen};
 ghost use Rattle.vortex_array.specs.ColumnOf.{column_of, is_plain as is_plain_array, nullable_column};
 
-use vortex_columns::BoolArray;
-use vortex_columns::ConstantArray;
-use vortex_columns::DecimalArray;
-use vortex_columns::PrimitiveArray;
-use vortex_columns::VarBinViewArray;
 use std::alloc::{AllocError, Global};
 use vortex_buffer::Mask;
-use vortex_types::{DType, Scalar, ValueRef};
+use vortex_columns::{BoolArray, ConstantArray, DecimalArray, PrimitiveArray, VarBinViewArray};
+use vortex_types::{DType, Scalar, Value, ValueRef};
 
 /// A column of any kind.
 #[derive(Drop)]
@@ -27,6 +23,16 @@ pub enum Array {
     VarBinView(VarBinViewArray),
     /// Equal rows.
     Constant(ConstantArray),
+}
+
+// A lent value or null as one of its own.
+fn owned(alloc: Global, value: Option<ValueRef<'_>>) -> Result<Option<Value>, AllocError>
+    ensures { IfOk result (λ v. v ≡ option_map value_seen value.entry) }
+{
+    match value {
+        Some(value) => Ok(Some(value.to_value(alloc)?)),
+        None => Ok(None),
+    }
 }
 
 impl Array {
@@ -91,10 +97,7 @@ impl Array {
         requires { i < length (column_of self.now).rows }
         ensures { IfOk result (λ s. s ≡ record { dtype = (column_of self.now).dtype; value = slice_index_or (column_of self.now).rows i None }) }
     {
-        let value = match self.value_at(i) {
-            Some(value) => Some(value.to_value(alloc)?),
-            None => None,
-        };
+        let value = owned(alloc, self.value_at(i))?;
         match Scalar::try_new(self.dtype(), value) {
             Ok(scalar) => Ok(scalar),
             Err(_) => unreachable!(),

@@ -3,8 +3,8 @@ ghost use Rattle.std.specs.Prelude.{◌≡◌, ◌<◌, ◌↔◌, IsTrue, All, 
 ghost use Rattle.vortex_array.specs.Batch.{HasRows};
 
 use crate::arrays::Array;
-use vortex_columns::LengthMismatch;
 use std::marker::Model;
+use vortex_columns::LengthMismatch;
 
 /// Some rows in columns of one length. Without columns the number of rows stands by itself.
 #[derive(Drop)]

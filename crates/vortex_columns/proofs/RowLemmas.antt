@@ -1,5 +1,5 @@
 -- Rows under a validity.
-use Rattle.std.proofs.Common.{ℕ, zero, suc, ◌<◌, ◌≡◌, ◌==◌, ◌+◌, Bool, true, false, List, [], ◌∷◌, length, get_or, map, refl, sym, ap, ◌∙◌, arith, Option, Some, None, cond}
+use Rattle.std.proofs.Common.{ℕ, zero, suc, ◌<◌, ◌≡◌, ◌==◌, Bool, true, false, List, [], ◌∷◌, length, get_or, map, refl, sym, ap, ◌∙◌, arith, Option, Some, None}
 use Rattle.std.specs.Prelude.{IsTrue, replicate, is_some}
 use Rattle.std.specs.Simd.Lanes.{zip2}
 use Rattle.std.proofs.lemmas.List.{length-map, get_or-map}
@@ -106,3 +106,8 @@ nullable-rows (Bits bits) vs = refl
 pub equal-present : {X : Type 0} (n : ℕ) (x : Option X) → map is_some (replicate n x) ≡ replicate n (is_some x)
 equal-present zero x = refl
 equal-present (suc n) x = ap (λ bs. is_some x ∷ bs) (equal-present n x)
+
+-- what is not null is present
+pub not-null : {X : Type 0} (x : Option X) (b : Bool) → b ≡ false → (x ≡ None → IsTrue b) → is_some x ≡ true
+not-null None b e h = cc (h refl)
+not-null (Some y) b e h = refl

@@ -1,5 +1,5 @@
 -- Which rows a column of texts or bytes takes.
-use Rattle.std.specs.Prelude.{◌≡◌, ℕ, IsTrue, IsFalse, List, Option, Some, None, IsUtf8}
+use Rattle.std.specs.Prelude.{ℕ, IsTrue, IsFalse, List, Option, Some, None, IsUtf8}
 use Rattle.vortex_types.specs.Row.{is_nullable}
 use Rattle.vortex_types.specs.declared.types.DType.{DType}
 use Rattle.vortex_columns.specs.ByteRows.{is_text_type}

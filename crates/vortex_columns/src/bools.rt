@@ -33,10 +33,7 @@ impl Model for BoolArray {
 
 impl BoolArray {
     /// A column of these bits. It is refused exactly where the validity has bits of another length.
-    pub fn try_new(
-        bits: BitBuffer,
-        validity: Validity,
-    ) -> Result<BoolArray, LengthMismatch>
+    pub fn try_new(bits: BitBuffer, validity: Validity) -> Result<BoolArray, LengthMismatch>
         ensures ok { IfOk result (λ a. a ≡ record { bits = bits; validity = validity }) }
         ensures fits { OnOk result (IsTrue (is_as_long validity (length bits))) }
         ensures err { OnErr result (IsFalse (is_as_long validity (length bits))) }
@@ -91,7 +88,10 @@ impl BoolArray {
         ensures value { option_map value_seen result ≡ slice_index_or (bool_column self.now).rows i None }
         ensures fits { IsTrue (fits_type (bool_column self.now).dtype (option_map value_seen result)) }
     {
-        row_if(self.validity.is_valid(i), ValueRef::Bool(self.bits.value(i)))
+        row_if(
+            self.validity.is_valid(i),
+            ValueRef::Bool(self.bits.value(i)),
+        )
     }
 
     /// For each row whether it is not null.

@@ -3,6 +3,7 @@ ghost use Rattle.std.specs.Prelude.{◌≡◌, ◌<◌, ◌==◌, IsTrue, IsFals
 ghost use Rattle.vortex_buffer.specs.Mask.{mask_bits};
 ghost use Rattle.vortex_types.specs.Row.{fits_type};
 ghost use Rattle.vortex_types.specs.Seen.{value_seen};
+ghost use Rattle.vortex_types.specs.declared.scalar.Value.TheVariants as value;
 ghost use Rattle.vortex_columns.specs.Kinds.{decimal_column, nullable_column, unscaled_of};
 ghost use Rattle.vortex_columns.specs.Validities.{is_as_long, nullable_validity};
 
@@ -147,6 +148,15 @@ impl DecimalBuffer {
     }
 }
 
+// The number at a place, lent as a value.
+#[inline]
+fn lend_number(values: &DecimalBuffer, i: usize) -> ValueRef<'_>
+    requires { i < length (unscaled_of values.now) }
+    ensures { value_seen result ≡ value.Decimal (slice_index_or (unscaled_of values.now) i (pos 0)) }
+{
+    ValueRef::Decimal(values.number_at(i))
+}
+
 /// A column of decimals. The unscaled number at a place is the row there where that row is not null.
 #[derive(Drop)]
 pub struct DecimalArray {
@@ -240,7 +250,7 @@ impl DecimalArray {
         ensures value { option_map value_seen result ≡ slice_index_or (decimal_column self.now).rows i None }
         ensures fits { IsTrue (fits_type (decimal_column self.now).dtype (option_map value_seen result)) }
     {
-        row_if(self.validity.is_valid(i), ValueRef::Decimal(self.values.number_at(i)))
+        row_if(self.validity.is_valid(i), lend_number(&self.values, i))
     }
 
     /// For each row whether it is not null.

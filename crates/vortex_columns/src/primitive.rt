@@ -3,6 +3,7 @@ ghost use Rattle.std.specs.Prelude.{◌≡◌, ◌<◌, ◌==◌, IsTrue, IsFals
 ghost use Rattle.vortex_buffer.specs.Mask.{mask_bits};
 ghost use Rattle.vortex_types.specs.Row.{fits_type, in_width};
 ghost use Rattle.vortex_types.specs.Seen.{value_seen};
+ghost use Rattle.vortex_types.specs.declared.scalar.Value.TheVariants as value;
 ghost use Rattle.vortex_columns.specs.Kinds.{len_of, nullable_column, numbers_of, primitive_column, ptype_of};
 ghost use Rattle.vortex_columns.specs.Validities.{is_as_long, nullable_validity};
 
@@ -126,6 +127,16 @@ impl PrimitiveBuffer {
     }
 }
 
+// The number at a place, lent as a value.
+#[inline]
+fn lend_number(values: &PrimitiveBuffer, i: usize) -> ValueRef<'_>
+    requires { i < length (numbers_of values.now) }
+    ensures value { value_seen result ≡ value.Int (slice_index_or (numbers_of values.now) i (pos 0)) }
+    ensures within { IsTrue (in_width (ptype_of values.now) (slice_index_or (numbers_of values.now) i (pos 0))) }
+{
+    ValueRef::Int(values.number_at(i))
+}
+
 /// A column of whole numbers. The number at a place is the row there where that row is not null.
 #[derive(Drop)]
 pub struct PrimitiveArray {
@@ -206,7 +217,7 @@ impl PrimitiveArray {
         ensures value { option_map value_seen result ≡ slice_index_or (primitive_column self.now).rows i None }
         ensures fits { IsTrue (fits_type (primitive_column self.now).dtype (option_map value_seen result)) }
     {
-        row_if(self.validity.is_valid(i), ValueRef::Int(self.values.number_at(i)))
+        row_if(self.validity.is_valid(i), lend_number(&self.values, i))
     }
 
     /// For each row whether it is not null.

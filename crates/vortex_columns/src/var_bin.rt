@@ -1,19 +1,20 @@
 // Columns of texts and of bytes.
-ghost use Rattle.std.specs.Prelude.{◌≡◌, ◌<◌, ◌==◌, ◌++◌, ◌∷◌, [], IsTrue, IsFalse, IfOk, IfErr, OnOk, OnErr, IsUtf8, None, Some, is_some, length, map, option_copied, option_map, slice_index_or};
+ghost use Rattle.std.specs.Prelude.{◌≡◌, ◌<◌, ◌==◌, ◌++◌, ◌∷◌, ◌||◌, [], IsTrue, IsFalse, IfOk, IfErr, OnOk, OnErr, IsUtf8, None, Some, is_some, length, map, option_copied, option_map, slice_index_or};
 ghost use Rattle.vortex_buffer.specs.Mask.{mask_bits};
-ghost use Rattle.vortex_types.specs.Row.{fits_type};
+ghost use Rattle.vortex_types.specs.Row.{fits_type, is_nullable};
 ghost use Rattle.vortex_types.specs.Seen.{value_seen};
-ghost use Rattle.vortex_columns.specs.ByteRows.{bytes_value, is_bytes_type, is_text_type};
+ghost use Rattle.vortex_columns.specs.ByteRows.{HoldsBytes, bytes_rows, bytes_value, is_bytes_type, is_text_type};
 ghost use Rattle.vortex_columns.specs.Kinds.{nullable_column};
+ghost use Rattle.vortex_columns.specs.Validities.{row_of};
 ghost use Rattle.vortex_columns.specs.Pushed.{Admits, Refuses};
 ghost use Rattle.vortex_columns.specs.declared.var_bin.PushError.TheVariants.{NotUtf8};
 
-use vortex_rows::ByteLists;
 use crate::validity::row_if;
 use std::alloc::{AllocError, Global};
 use std::marker::Model;
-use vortex_buffer::Mask;
+use vortex_buffer::{BitBuffer, Mask};
 use vortex_compute::collect_bits;
+use vortex_rows::ByteLists;
 use vortex_types::{DType, ValueRef};
 
 /// Why a row was not taken.
@@ -82,6 +83,29 @@ fn is_value_of(dtype: DType, bytes: &[u8]) -> bool
     }
 }
 
+// The row at a place: null where the list there is not present.
+fn row_at<'a>(
+    dtype: DType,
+    lists: &'a ByteLists,
+    present: &[bool],
+    i: usize,
+) -> Option<ValueRef<'a>>
+    requires holds { HoldsBytes dtype lists.now present.now }
+    requires inside { i < length lists.now }
+    ensures value { option_map value_seen result ≡ slice_index_or (bytes_rows dtype lists.now present.now) i None }
+    ensures fits { IsTrue (fits_type dtype (option_map value_seen result)) }
+{
+    row_if(present[i], lend(dtype, lists, i))
+}
+
+// Which rows are present, as bits.
+fn present_bits(alloc: Global, present: &[bool]) -> Result<BitBuffer, AllocError>
+    ensures { IfOk result (λ bits. bits ≡ present.now) }
+{
+    let bits = collect_bits(alloc, present, |is_present: bool| is_present)?;
+    Ok(bits)
+}
+
 // One more list of bytes and whether it is present. Where memory is wanting both stay.
 fn push_list(
     lists: &mut ByteLists,
@@ -97,6 +121,25 @@ fn push_list(
     present.reserve(1)?;
     lists.push(bytes)?;
     let _ = present.push(is_present);
+    Ok(())
+}
+
+// One more row of a type: bytes that it admits, or null in a type with nulls. Where memory is wanting the rows stay.
+fn push_row(
+    dtype: DType,
+    lists: &mut ByteLists,
+    present: &mut Vec<bool>,
+    bytes: &[u8],
+    is_present: bool,
+) -> Result<(), AllocError>
+    requires holds { HoldsBytes dtype lists.old present.old.items }
+    requires text { IsTrue (is_text_type dtype) → IsUtf8 bytes.now }
+    requires nulls { IsTrue (is_nullable dtype || is_present) }
+    ensures holds { HoldsBytes dtype lists.new present.new.items }
+    ensures rows { OnOk result (bytes_rows dtype lists.new present.new.items ≡ bytes_rows dtype lists.old present.old.items ++ row_of (bytes_value dtype bytes.now) is_present ∷ []) }
+    ensures kept { OnErr result (bytes_rows dtype lists.new present.new.items ≡ bytes_rows dtype lists.old present.old.items) }
+{
+    push_list(lists, present, bytes, is_present)?;
     Ok(())
 }
 
@@ -129,14 +172,14 @@ impl VarBinViewArray {
         ensures value { option_map value_seen result ≡ slice_index_or self.now.rows i None }
         ensures fits { IsTrue (fits_type self.now.dtype (option_map value_seen result)) }
     {
-        row_if(self.present[i], lend(self.dtype, &self.lists, i))
+        row_at(self.dtype, &self.lists, self.present.as_slice(), i)
     }
 
     /// For each row whether it is not null.
     pub fn validity_mask(&self, alloc: Global) -> Result<Mask, AllocError>
         ensures { IfOk result (λ mask. mask_bits mask ≡ map is_some self.now.rows) }
     {
-        let bits = collect_bits(alloc, self.present.as_slice(), |present: bool| present)?;
+        let bits = present_bits(alloc, self.present.as_slice())?;
         Ok(Mask::from_buffer(bits))
     }
 
@@ -226,10 +269,10 @@ impl VarBinViewBuilder {
         if !self.dtype.is_nullable() {
             return Err(PushError::WrongType);
         }
-        match push_list(&mut self.lists, &mut self.present, &[], false) {
-            Ok(()) => Ok(()),
-            Err(_) => Err(PushError::OutOfMemory),
+        if push_row(self.dtype, &mut self.lists, &mut self.present, &[], false).is_err() {
+            return Err(PushError::OutOfMemory);
         }
+        Ok(())
     }
 
     // One more row, of bytes.
@@ -242,10 +285,10 @@ impl VarBinViewBuilder {
         if !is_value_of(self.dtype, bytes) {
             return Err(PushError::NotUtf8);
         }
-        match push_list(&mut self.lists, &mut self.present, bytes, true) {
-            Ok(()) => Ok(()),
-            Err(_) => Err(PushError::OutOfMemory),
+        if push_row(self.dtype, &mut self.lists, &mut self.present, bytes, true).is_err() {
+            return Err(PushError::OutOfMemory);
         }
+        Ok(())
     }
 
     /// The column. It takes no memory.

@@ -1,5 +1,4 @@
 use Rattle.std.proofs.Common.{◌∙◌, ◌<◌, ap, arith, length, false}
-use Rattle.std.specs.Prelude.{pos}
 use Rattle.vortex_types.specs.declared.scalar.Value.TheVariants as value
 use Rattle.vortex_columns.specs.Validities.{row_of, valid_at}
 use Rattle.vortex_columns.proofs.RowLemmas.{length-rows-map, row-at}

@@ -2,3 +2,5 @@ pub mod Converted
 pub mod CastRows
 pub mod CastPlain
 pub mod CastNumbers
+pub mod CastTexts
+pub mod FilledRows

@@ -44,3 +44,10 @@ RefusesCast t c Unsupported = IsFalse (can_cast c.dtype t)
 RefusesCast t c (HasNull i) = StopsAt t c i false
 RefusesCast t c (DoesNotFit i) = StopsAt t c i true
 RefusesCast t c OutOfMemory = IsCast t c
+
+-- why a row is not cast that stands at place 0, or for each row
+abbrev pub RefusesRow : DType → Option Value → CastError → Type 0
+RefusesRow t row Unsupported = ⊥
+RefusesRow t row (HasNull i) = (i ≡ 0) × (row ≡ None) × IsFalse (fits_type t row)
+RefusesRow t row (DoesNotFit i) = (i ≡ 0) × IsTrue (is_some row) × IsFalse (fits_type t row)
+RefusesRow t row OutOfMemory = IsTrue (fits_type t row)

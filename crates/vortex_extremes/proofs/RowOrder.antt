@@ -11,6 +11,9 @@ use Rattle.std.proofs.lemmas.Cmp.{upto, tied_itself, nat_cmp_total, int_cmp_tota
 use Rattle.std.proofs.lemmas.List.{get_or_default}
 use Rattle.std.proofs.lemmas.Map.Lookups.{exact_bytes, exact_signed}
 use Rattle.vortex_types.specs.Order.{row_cmp, value_cmp}
+use Rattle.vortex_types.specs.Row.{fits_type, value_fits}
+use Rattle.vortex_types.specs.declared.types.DType.{DType}
+use Rattle.vortex_types.specs.declared.types.DType.TheVariants as dtype
 use Rattle.vortex_types.specs.declared.scalar.Value.{Value}
 use Rattle.vortex_types.specs.declared.scalar.Value.TheVariants.{Bool as Truth, Int, Decimal, Utf8, Binary}
 use Rattle.vortex_extremes.specs.InOrder.{IsConstant, at_most, below}
@@ -221,8 +224,8 @@ same-kind (Some (Binary a)) (Some (Decimal b)) s t h = absurd (false≢true h)
 same-kind (Some (Binary a)) (Some (Utf8 b)) s t h = absurd (false≢true h)
 same-kind (Some (Binary a)) (Some (Binary b)) s t h = refl
 
--- rows of one kind have an order
-pub has-order : (a b : Option Value) → kind a ≡ kind b → is_some (row_cmp a b) ≡ true
+-- rows of one kind, or null, have an order
+pub has-order : (a b : Option Value) → (is_some a ≡ true → is_some b ≡ true → kind a ≡ kind b) → is_some (row_cmp a b) ≡ true
 has-order None None e = refl
 has-order None (Some (Truth b)) e = refl
 has-order None (Some (Int b)) e = refl
@@ -235,30 +238,74 @@ has-order (Some (Decimal a)) None e = refl
 has-order (Some (Utf8 a)) None e = refl
 has-order (Some (Binary a)) None e = refl
 has-order (Some (Truth a)) (Some (Truth b)) e = refl
-has-order (Some (Truth a)) (Some (Int b)) e = absurd (omega (arith, e))
-has-order (Some (Truth a)) (Some (Decimal b)) e = absurd (omega (arith, e))
-has-order (Some (Truth a)) (Some (Utf8 b)) e = absurd (omega (arith, e))
-has-order (Some (Truth a)) (Some (Binary b)) e = absurd (omega (arith, e))
-has-order (Some (Int a)) (Some (Truth b)) e = absurd (omega (arith, e))
+has-order (Some (Truth a)) (Some (Int b)) e = absurd (omega (arith, e refl refl))
+has-order (Some (Truth a)) (Some (Decimal b)) e = absurd (omega (arith, e refl refl))
+has-order (Some (Truth a)) (Some (Utf8 b)) e = absurd (omega (arith, e refl refl))
+has-order (Some (Truth a)) (Some (Binary b)) e = absurd (omega (arith, e refl refl))
+has-order (Some (Int a)) (Some (Truth b)) e = absurd (omega (arith, e refl refl))
 has-order (Some (Int a)) (Some (Int b)) e = refl
-has-order (Some (Int a)) (Some (Decimal b)) e = absurd (omega (arith, e))
-has-order (Some (Int a)) (Some (Utf8 b)) e = absurd (omega (arith, e))
-has-order (Some (Int a)) (Some (Binary b)) e = absurd (omega (arith, e))
-has-order (Some (Decimal a)) (Some (Truth b)) e = absurd (omega (arith, e))
-has-order (Some (Decimal a)) (Some (Int b)) e = absurd (omega (arith, e))
+has-order (Some (Int a)) (Some (Decimal b)) e = absurd (omega (arith, e refl refl))
+has-order (Some (Int a)) (Some (Utf8 b)) e = absurd (omega (arith, e refl refl))
+has-order (Some (Int a)) (Some (Binary b)) e = absurd (omega (arith, e refl refl))
+has-order (Some (Decimal a)) (Some (Truth b)) e = absurd (omega (arith, e refl refl))
+has-order (Some (Decimal a)) (Some (Int b)) e = absurd (omega (arith, e refl refl))
 has-order (Some (Decimal a)) (Some (Decimal b)) e = refl
-has-order (Some (Decimal a)) (Some (Utf8 b)) e = absurd (omega (arith, e))
-has-order (Some (Decimal a)) (Some (Binary b)) e = absurd (omega (arith, e))
-has-order (Some (Utf8 a)) (Some (Truth b)) e = absurd (omega (arith, e))
-has-order (Some (Utf8 a)) (Some (Int b)) e = absurd (omega (arith, e))
-has-order (Some (Utf8 a)) (Some (Decimal b)) e = absurd (omega (arith, e))
+has-order (Some (Decimal a)) (Some (Utf8 b)) e = absurd (omega (arith, e refl refl))
+has-order (Some (Decimal a)) (Some (Binary b)) e = absurd (omega (arith, e refl refl))
+has-order (Some (Utf8 a)) (Some (Truth b)) e = absurd (omega (arith, e refl refl))
+has-order (Some (Utf8 a)) (Some (Int b)) e = absurd (omega (arith, e refl refl))
+has-order (Some (Utf8 a)) (Some (Decimal b)) e = absurd (omega (arith, e refl refl))
 has-order (Some (Utf8 a)) (Some (Utf8 b)) e = refl
-has-order (Some (Utf8 a)) (Some (Binary b)) e = absurd (omega (arith, e))
-has-order (Some (Binary a)) (Some (Truth b)) e = absurd (omega (arith, e))
-has-order (Some (Binary a)) (Some (Int b)) e = absurd (omega (arith, e))
-has-order (Some (Binary a)) (Some (Decimal b)) e = absurd (omega (arith, e))
-has-order (Some (Binary a)) (Some (Utf8 b)) e = absurd (omega (arith, e))
+has-order (Some (Utf8 a)) (Some (Binary b)) e = absurd (omega (arith, e refl refl))
+has-order (Some (Binary a)) (Some (Truth b)) e = absurd (omega (arith, e refl refl))
+has-order (Some (Binary a)) (Some (Int b)) e = absurd (omega (arith, e refl refl))
+has-order (Some (Binary a)) (Some (Decimal b)) e = absurd (omega (arith, e refl refl))
+has-order (Some (Binary a)) (Some (Utf8 b)) e = absurd (omega (arith, e refl refl))
 has-order (Some (Binary a)) (Some (Binary b)) e = refl
+
+-- the kind of a type's values
+type_kind : DType → ℕ
+type_kind (dtype.Bool n) = 1
+type_kind (dtype.Primitive w n) = 2
+type_kind (dtype.Decimal w n) = 3
+type_kind (dtype.Utf8 n) = 4
+type_kind (dtype.Binary n) = 5
+
+-- a value of a type is of its kind
+fit-kind : (t : DType) (v : Value) → value_fits t v ≡ true → kind (Some v) ≡ type_kind t
+fit-kind (dtype.Bool n) (Truth a) h = refl
+fit-kind (dtype.Bool n) (Int a) h = absurd (false≢true h)
+fit-kind (dtype.Bool n) (Decimal a) h = absurd (false≢true h)
+fit-kind (dtype.Bool n) (Utf8 a) h = absurd (false≢true h)
+fit-kind (dtype.Bool n) (Binary a) h = absurd (false≢true h)
+fit-kind (dtype.Primitive w n) (Truth a) h = absurd (false≢true h)
+fit-kind (dtype.Primitive w n) (Int a) h = refl
+fit-kind (dtype.Primitive w n) (Decimal a) h = absurd (false≢true h)
+fit-kind (dtype.Primitive w n) (Utf8 a) h = absurd (false≢true h)
+fit-kind (dtype.Primitive w n) (Binary a) h = absurd (false≢true h)
+fit-kind (dtype.Decimal w n) (Truth a) h = absurd (false≢true h)
+fit-kind (dtype.Decimal w n) (Int a) h = absurd (false≢true h)
+fit-kind (dtype.Decimal w n) (Decimal a) h = refl
+fit-kind (dtype.Decimal w n) (Utf8 a) h = absurd (false≢true h)
+fit-kind (dtype.Decimal w n) (Binary a) h = absurd (false≢true h)
+fit-kind (dtype.Utf8 n) (Truth a) h = absurd (false≢true h)
+fit-kind (dtype.Utf8 n) (Int a) h = absurd (false≢true h)
+fit-kind (dtype.Utf8 n) (Decimal a) h = absurd (false≢true h)
+fit-kind (dtype.Utf8 n) (Utf8 a) h = refl
+fit-kind (dtype.Utf8 n) (Binary a) h = absurd (false≢true h)
+fit-kind (dtype.Binary n) (Truth a) h = absurd (false≢true h)
+fit-kind (dtype.Binary n) (Int a) h = absurd (false≢true h)
+fit-kind (dtype.Binary n) (Decimal a) h = absurd (false≢true h)
+fit-kind (dtype.Binary n) (Utf8 a) h = absurd (false≢true h)
+fit-kind (dtype.Binary n) (Binary a) h = refl
+
+row-kind : (t : DType) (a : Option Value) → is_some a ≡ true → IsTrue (fits_type t a) → kind a ≡ type_kind t
+row-kind t None s h = absurd (false≢true s)
+row-kind t (Some v) s h = fit-kind t v h
+
+-- rows of one type have an order
+pub fit-order : (t : DType) (a b : Option Value) → IsTrue (fits_type t a) → IsTrue (fits_type t b) → IsTrue (is_some (row_cmp a b))
+fit-order t a b h k = has-order a b (λ s u. row-kind t a s h ∙ sym (row-kind t b u k))
 
 -- an order that there is
 record Ordered (a b : Option Value) : Type 0 where
@@ -289,7 +336,7 @@ value-trans a b c s t u h k =
     let ab = ordered a b h in
     let bc = ordered b c k in
     let one : kind a ≡ kind c = same-kind a b s t (ap is_some ab.is) ∙ same-kind b c t u (ap is_some bc.is) in
-    let ac = some-order (row_cmp a c) (has-order a c one) in
+    let ac = some-order (row_cmp a c) (has-order a c (λ _ _. one)) in
     at_most-answered a c ac.0 ac.1 (at_most-upto a b c ab.order bc.order ac.0 ab.is bc.is ac.1 ab.upto bc.upto)
 
 -- a row that is at most a value is at most each value above
@@ -300,7 +347,7 @@ at_most-trans (Some a) b c t u h k = value-trans (Some a) b c refl t u h k
 -- what is not below another is at least it
 pub turned : (a b : Option Value) (o : Ordering) → is_some a ≡ true → is_some b ≡ true → row_cmp a b ≡ Some o → is_lt o ≡ false → IsTrue (at_most b a)
 turned a b o s t h e =
-    let ba = some-order (row_cmp b a) (has-order b a (sym (same-kind a b s t (ap is_some h)))) in
+    let ba = some-order (row_cmp b a) (has-order b a (λ _ _. sym (same-kind a b s t (ap is_some h)))) in
     let back : ba.0 ≡ ordering_reverse o = sym (agrees b a ba.0 ba.1) ∙ full_total.antisymm b a ∙ ap ordering_reverse (agrees a b o h) in
     at_most-answered b a ba.0 ba.1 (ap is_gt back ∙ not-less o e)
   where

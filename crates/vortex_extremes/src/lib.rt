@@ -2,5 +2,12 @@
 //! of column. One loop each, over rows that are compared two at a time.
 #![tactic(auto)]
 
+mod lent;
+mod numbers;
 mod order;
 mod places;
+
+pub use lent::{bools_are, decimals_are, texts_are};
+pub use numbers::numbers_are;
+pub use order::RowOrder;
+pub use places::Extreme;

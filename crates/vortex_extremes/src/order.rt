@@ -3,6 +3,7 @@ ghost use Rattle.std.specs.Prelude.{◌≡◌, ◌<◌, ◌↔◌, IsTrue, List,
 ghost use Rattle.vortex_types.specs.Order.{row_cmp};
 ghost use Rattle.vortex_types.specs.declared.scalar.Value.{Value};
 ghost use Rattle.vortex_extremes.specs.InOrder.{IsConstant, IsSorted, IsStrictlySorted};
+ghost use Rattle.vortex_extremes.specs.Asked.{Holds};
 
 use std::cmp::Ordering;
 
@@ -11,11 +12,11 @@ pub(crate) trait OrderedRows {
     ghost rows: { Self → List (Option Value) };
 
     /// How many rows there are.
-    fn len(&self) -> usize
+    fn count(&self) -> usize
         ensures { result ≡ length (rows self.now) };
 
     /// Whether the row at a place is not null.
-    fn is_valid(&self, i: usize) -> bool
+    fn is_value(&self, i: usize) -> bool
         requires { i < length (rows self.now) }
         ensures { result ≡ is_some (slice_index_or (rows self.now) i None) };
 
@@ -26,11 +27,33 @@ pub(crate) trait OrderedRows {
         ensures { row_cmp (slice_index_or (rows self.now) i None) (slice_index_or (rows self.now) j None) ≡ Some result };
 }
 
-/// Whether there is a row, and each row equals it.
-pub(crate) fn are_constant<R: OrderedRows>(rows: &R) -> bool
+/// What is asked of the order of a column's rows.
+#[derive(Clone, Copy, Debug, PartialEq, Eq)]
+pub enum RowOrder {
+    /// Whether there is a row, and each row equals it.
+    Constant,
+    /// Whether each row is at most the next one.
+    Sorted,
+    /// Whether each row is below the next one.
+    StrictlySorted,
+}
+
+/// Whether the rows stand in the order that is asked for.
+pub(crate) fn are_ordered<R: OrderedRows>(rows: &R, order: RowOrder) -> bool
+    ensures { IsTrue result ↔ Holds order (R.rows rows.now) }
+{
+    match order {
+        RowOrder::Constant => are_constant(rows),
+        RowOrder::Sorted => are_sorted(rows),
+        RowOrder::StrictlySorted => are_strictly_sorted(rows),
+    }
+}
+
+// Whether there is a row, and each row equals it.
+fn are_constant<R: OrderedRows>(rows: &R) -> bool
     ensures { IsTrue result ↔ IsConstant (R.rows rows.now) }
 {
-    let len = rows.len();
+    let len = rows.count();
     if len == 0 {
         return false;
     }
@@ -42,11 +65,11 @@ pub(crate) fn are_constant<R: OrderedRows>(rows: &R) -> bool
     true
 }
 
-/// Whether each row is at most the next one.
-pub(crate) fn are_sorted<R: OrderedRows>(rows: &R) -> bool
+// Whether each row is at most the next one.
+fn are_sorted<R: OrderedRows>(rows: &R) -> bool
     ensures { IsTrue result ↔ IsSorted (R.rows rows.now) }
 {
-    for i in 1..rows.len() {
+    for i in 1..rows.count() {
         if rows.compare(i - 1, i).is_gt() {
             return false;
         }
@@ -54,11 +77,11 @@ pub(crate) fn are_sorted<R: OrderedRows>(rows: &R) -> bool
     true
 }
 
-/// Whether each row is below the next one.
-pub(crate) fn are_strictly_sorted<R: OrderedRows>(rows: &R) -> bool
+// Whether each row is below the next one.
+fn are_strictly_sorted<R: OrderedRows>(rows: &R) -> bool
     ensures { IsTrue result ↔ IsStrictlySorted (R.rows rows.now) }
 {
-    for i in 1..rows.len() {
+    for i in 1..rows.count() {
         if !rows.compare(i - 1, i).is_lt() {
             return false;
         }

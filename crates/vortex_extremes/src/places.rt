@@ -1,15 +1,35 @@
 // The places of the least and the greatest value.
-ghost use Rattle.std.specs.Prelude.{◌≡◌, ◌<◌, ◌+◌, length};
+ghost use Rattle.std.specs.Prelude.{◌<◌, ◌+◌, length};
 ghost use Rattle.vortex_extremes.specs.Extremes.{GreatestBelow, LeastBelow};
+ghost use Rattle.vortex_extremes.specs.Asked.{ExtremePlace};
 
 use crate::order::OrderedRows;
 
-/// The place of the least value, or none where no row is a value.
-pub(crate) fn least_place<R: OrderedRows>(rows: &R) -> Option<usize>
+/// Which extreme value of a column.
+#[derive(Clone, Copy, Debug, PartialEq, Eq)]
+pub enum Extreme {
+    /// The least one.
+    Least,
+    /// The greatest one.
+    Greatest,
+}
+
+/// The place of an extreme value, or none where no row is a value.
+pub(crate) fn extreme_place<R: OrderedRows>(rows: &R, extreme: Extreme) -> Option<usize>
+    ensures { ExtremePlace extreme (R.rows rows.now) result }
+{
+    match extreme {
+        Extreme::Least => least_place(rows),
+        Extreme::Greatest => greatest_place(rows),
+    }
+}
+
+// The place of the least value, or none where no row is a value.
+fn least_place<R: OrderedRows>(rows: &R) -> Option<usize>
     ensures { LeastBelow (R.rows rows.now) (length (R.rows rows.now)) result }
 {
     let mut least = None;
-    for i in 0..rows.len() {
+    for i in 0..rows.count() {
         least = lesser(rows, least, i);
     }
     least
@@ -24,14 +44,14 @@ fn lesser<R: OrderedRows>(rows: &R, least: Option<usize>, i: usize) -> Option<us
 {
     match least {
         None => {
-            if rows.is_valid(i) {
+            if rows.is_value(i) {
                 Some(i)
             } else {
                 None
             }
         }
         Some(place) => {
-            if rows.is_valid(i) && rows.compare(i, place).is_lt() {
+            if rows.is_value(i) && rows.compare(i, place).is_lt() {
                 Some(i)
             } else {
                 Some(place)
@@ -40,12 +60,12 @@ fn lesser<R: OrderedRows>(rows: &R, least: Option<usize>, i: usize) -> Option<us
     }
 }
 
-/// The place of the greatest value, or none where no row is a value.
-pub(crate) fn greatest_place<R: OrderedRows>(rows: &R) -> Option<usize>
+// The place of the greatest value, or none where no row is a value.
+fn greatest_place<R: OrderedRows>(rows: &R) -> Option<usize>
     ensures { GreatestBelow (R.rows rows.now) (length (R.rows rows.now)) result }
 {
     let mut greatest = None;
-    for i in 0..rows.len() {
+    for i in 0..rows.count() {
         greatest = greater(rows, greatest, i);
     }
     greatest
@@ -60,7 +80,7 @@ fn greater<R: OrderedRows>(rows: &R, greatest: Option<usize>, i: usize) -> Optio
 {
     match greatest {
         None => {
-            if rows.is_valid(i) {
+            if rows.is_value(i) {
                 Some(i)
             } else {
                 None

@@ -1,3 +1,4 @@
-pub mod RowOrder
-pub mod Places
+pub mod OrderLaws
+pub mod ExtremeSteps
 pub mod Standings
+pub mod EqualRows

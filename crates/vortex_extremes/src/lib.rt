@@ -2,11 +2,13 @@
 //! of column. One loop each, over rows that are compared two at a time.
 #![tactic(auto)]
 
+mod constant;
 mod lent;
 mod numbers;
 mod order;
 mod places;
 
+pub use constant::equal_rows_are;
 pub use lent::{bools_are, decimals_are, texts_are};
 pub use numbers::numbers_are;
 pub use order::RowOrder;

@@ -1,5 +1,6 @@
 // Columns of whole numbers: their native numbers are compared, with no value made for a row.
 ghost use Rattle.std.specs.Prelude.{◌≡◌, ◌↔◌, IsTrue, length, map};
+ghost use Rattle.std.specs.Ordering.{int_cmp};
 ghost use Rattle.vortex_types.specs.declared.scalar.Value.TheVariants as values;
 ghost use Rattle.vortex_columns.specs.Kinds.{primitive_column};
 ghost use Rattle.vortex_columns.specs.Validities.{is_as_long, rows_under};
@@ -14,7 +15,7 @@ use vortex_columns::{PrimitiveArray, PrimitiveBuffer, Validity};
 use vortex_types::NativeValue;
 
 // Numbers of one width, of which those are rows that are valid. The others are null.
-#[derive(Clone, Copy)]
+#[derive(Drop)]
 struct Numbers<'a, T: NativeValue> {
     items: &'a [T],
     validity: &'a Validity,
@@ -34,6 +35,16 @@ fn standing_of(first: bool, second: bool, order: Ordering) -> Ordering
     }
 }
 
+// How the numbers of two items stand to one another.
+#[inline(always)]
+fn compare_items<T: NativeValue>(first: T, second: T) -> Ordering
+    ensures { result ≡ int_cmp (T.number first) (T.number second) }
+{
+    let first = first.value();
+    let second = second.value();
+    first.cmp(&second)
+}
+
 impl<T: NativeValue> OrderedRows for Numbers<'_, T> {
     ghost rows = { λ s. rows_under s.validity.now (map (λ n. values.Int n) (map T.number s.items.now)) };
 
@@ -49,7 +60,7 @@ impl<T: NativeValue> OrderedRows for Numbers<'_, T> {
 
     #[inline(always)]
     fn compare(&self, i: usize, j: usize) -> Ordering {
-        let order = self.items[i].value().cmp(&self.items[j].value());
+        let order = compare_items(self.items[i], self.items[j]);
         standing_of(self.validity.is_valid(i), self.validity.is_valid(j), order)
     }
 }

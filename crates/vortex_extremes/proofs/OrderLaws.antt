@@ -1,12 +1,12 @@
 -- The order of rows, as a part of an order of all rows of all types.
-use Rattle.std.proofs.Common.{ℕ, zero, suc, ◌<◌, ◌≡◌, ◌+◌, Bool, true, false, cond, List, [], ◌∷◌, length, get_or, refl, sym, ap, ◌∙◌, arith, Option, Some, None}
-use Rattle.std.specs.Prelude.{ℤ, pos, IsTrue, IsFalse, is_some, unwrap_or}
+use Rattle.std.proofs.Common.{ℕ, zero, suc, inl, inr, ◌<◌, ◌≤◌, ◌≡◌, ◌+◌, ◌-◌, Bool, true, false, cond, List, [], ◌∷◌, length, get_or, refl, sym, ap, ◌∙◌, arith, Option, Some, None}
+use Rattle.std.specs.Prelude.{ℤ, pos, IsTrue, IsFalse, is_some, unwrap_or, ◌⊎◌}
 use Rattle.std.specs.declared.cmp.Ordering.{Ordering}
 use Rattle.std.specs.declared.cmp.Ordering.TheVariants.{Less, Equal, Greater}
 use Rattle.std.specs.Ordering.{is_some_and, is_eq, is_lt, is_le, is_gt, nat_cmp, int_cmp, bool_cmp, ordering_then, ordering_reverse, then_cmp, on}
 use Rattle.std.specs.Cmp.{IsTotalOrder}
 use Rattle.std.specs.Cmp.Lexicographic.{slice_cmp}
-use Rattle.std.proofs.lemmas.Bool.{false≢true, true≢false}
+use Rattle.std.proofs.lemmas.Bool.{cases_lt, false≢true, true≢false}
 use Rattle.std.proofs.lemmas.Cmp.{upto, tied_itself, nat_cmp_total, int_cmp_total, nat_list_cmp_total, on_total, then_total}
 use Rattle.std.proofs.lemmas.List.{get_or_default}
 use Rattle.std.proofs.lemmas.Map.Lookups.{exact_bytes, exact_signed}
@@ -19,7 +19,7 @@ use Rattle.vortex_types.specs.declared.scalar.Value.TheVariants.{Bool as Truth, 
 use Rattle.vortex_extremes.specs.InOrder.{IsConstant, at_most, below}
 
 -- a number for null and each kind of values
-kind : Option Value → ℕ
+abbrev pub kind : Option Value → ℕ
 kind None = 0
 kind (Some (Truth b)) = 1
 kind (Some (Int n)) = 2
@@ -28,7 +28,7 @@ kind (Some (Utf8 t)) = 4
 kind (Some (Binary b)) = 5
 
 -- its number
-whole : Option Value → ℤ
+abbrev pub whole : Option Value → ℤ
 whole None = pos 0
 whole (Some (Truth b)) = cond b (pos 1) (pos 0)
 whole (Some (Int n)) = n
@@ -37,7 +37,7 @@ whole (Some (Utf8 t)) = pos 0
 whole (Some (Binary b)) = pos 0
 
 -- its bytes
-octets : Option Value → List ℕ
+abbrev pub octets : Option Value → List ℕ
 octets None = []
 octets (Some (Truth b)) = []
 octets (Some (Int n)) = []
@@ -46,11 +46,11 @@ octets (Some (Utf8 t)) = t
 octets (Some (Binary b)) = b
 
 -- by kind, number and bytes
-full_cmp : Option Value → Option Value → Ordering
+abbrev pub full_cmp : Option Value → Option Value → Ordering
 full_cmp = then_cmp (on kind nat_cmp) (then_cmp (on whole int_cmp) (on octets (slice_cmp nat_cmp)))
 
 full_total : IsTotalOrder full_cmp
-full_total = unfolding full_cmp in then_total (on_total kind nat_cmp_total) (then_total (on_total whole int_cmp_total) (on_total octets nat_list_cmp_total))
+full_total = then_total (on_total kind nat_cmp_total) (then_total (on_total whole int_cmp_total) (on_total octets nat_list_cmp_total))
 
 then-equal : (o : Ordering) → ordering_then o Equal ≡ o
 then-equal Less = refl
@@ -264,7 +264,7 @@ has-order (Some (Binary a)) (Some (Utf8 b)) e = absurd (omega (arith, e refl ref
 has-order (Some (Binary a)) (Some (Binary b)) e = refl
 
 -- the kind of a type's values
-type_kind : DType → ℕ
+abbrev pub type_kind : DType → ℕ
 type_kind (dtype.Bool n) = 1
 type_kind (dtype.Primitive w n) = 2
 type_kind (dtype.Decimal w n) = 3
@@ -377,3 +377,29 @@ above-at_least a b o s t h e = turned a b o s t h (greater o e)
 -- a row is at most itself
 pub at_most-itself : (a : Option Value) → IsTrue (at_most a a)
 at_most-itself a = at_most-answered a a Equal (row-itself a) refl
+
+equal-order : (o : Ordering) → is_eq o ≡ true → o ≡ Equal
+equal-order Less e = absurd (false≢true e)
+equal-order Equal e = refl
+equal-order Greater e = absurd (false≢true e)
+
+-- rows that are answered equal are one
+pub answered-same : (a b : Option Value) (o : Ordering) → row_cmp a b ≡ Some o → is_eq o ≡ true → b ≡ a
+answered-same a b o h e = sym (is-same a b (h ∙ ap (λ x. Some x) (equal-order o e)))
+
+-- rows that are answered apart are not those of a constant list
+pub not-constant : (rows : List (Option Value)) (i : ℕ) (o : Ordering) → i < length rows → row_cmp (get_or rows 0 None) (get_or rows i None) ≡ Some o → is_eq o ≡ false → IsConstant rows → ⊥
+not-constant rows i o l h e k =
+    true≢false (ap is_eq (given Equal o (sym (row-itself (get_or rows 0 None)) ∙ ap (λ r. row_cmp (get_or rows 0 None) r) (sym (rows-constant rows k i l)) ∙ h)) ∙ e)
+
+-- one more row in order
+pub sorted-more : (rows : List (Option Value)) (i : ℕ) (o : Ordering) → 1 ≤ i → ((k : ℕ) → k + 1 < i → IsTrue (at_most (get_or rows k None) (get_or rows (k + 1) None))) → row_cmp (get_or rows (i - 1) None) (get_or rows i None) ≡ Some o → is_gt o ≡ false
+    → (k : ℕ) → k + 1 < i + 1 → IsTrue (at_most (get_or rows k None) (get_or rows (k + 1) None))
+sorted-more rows i o one before h e k l = by_place (cases_lt (k + 1) i)
+  where
+    by_place : (k + 1 < i) ⊎ (i ≤ k + 1) → IsTrue (at_most (get_or rows k None) (get_or rows (k + 1) None))
+    by_place (inl b) = before k b
+    by_place (inr b) =
+        let here : k + 1 ≡ i = omega (arith, l, b) in
+        let prior : k ≡ i - 1 = omega (arith, here) in
+        rw (here, prior) (at_most-answered (get_or rows (i - 1) None) (get_or rows i None) o h e)

@@ -9,14 +9,14 @@ use Rattle.vortex_types.specs.Order.{row_cmp}
 use Rattle.vortex_types.specs.declared.scalar.Value.{Value}
 use Rattle.vortex_extremes.specs.InOrder.{at_most}
 use Rattle.vortex_extremes.specs.Extremes.{LeastOf, GreatestOf, NoneOf}
-use Rattle.vortex_extremes.proofs.RowOrder.{null-least, at_most-itself, at_most-trans, turned, below-at_most, above-at_least, at_most-answered}
+use Rattle.vortex_extremes.proofs.OrderLaws.{null-least, at_most-itself, at_most-trans, turned, below-at_most, above-at_least, at_most-answered}
 
 is-none : (a : Option Value) → is_some a ≡ false → a ≡ None
 is-none None h = refl
 is-none (Some a) h = absurd (true≢false h)
 
 -- one more row
-more : (P : ℕ → Type 0) (i : ℕ) → ((j : ℕ) → j < i → P j) → P i → (j : ℕ) → j < i + 1 → P j
+pub more : (P : ℕ → Type 0) (i : ℕ) → ((j : ℕ) → j < i → P j) → P i → (j : ℕ) → j < i + 1 → P j
 more P i h here j l = by_place (cases_lt j i)
   where
     by_place : (j < i) ⊎ (i ≤ j) → P j

@@ -4,9 +4,12 @@
 
 mod arrays;
 mod batch;
+mod convert;
+mod orders;
 
 pub use arrays::Array;
 pub use batch::RecordBatch;
+pub use vortex_casts::CastError;
 pub use vortex_columns::{
     BoolArray, ConstantArray, DecimalArray, DecimalBuffer, DecimalValue, LengthMismatch,
     PrimitiveArray, PrimitiveBuffer, PushError, Validity, VarBinViewArray, VarBinViewBuilder,

@@ -1,5 +1,5 @@
 -- What is asked of the order of rows.
-use Rattle.std.specs.Prelude.{ℕ, List, length, Option}
+use Rattle.std.specs.Prelude.{◌≡◌, ◌<◌, ℕ, true, List, length, Option, Some, None, is_some}
 use Rattle.vortex_types.specs.declared.scalar.Value.{Value}
 use Rattle.vortex_extremes.specs.declared.order.RowOrder.{RowOrder}
 use Rattle.vortex_extremes.specs.declared.order.RowOrder.TheVariants.{Constant, Sorted, StrictlySorted}
@@ -18,3 +18,8 @@ Holds StrictlySorted rows = IsStrictlySorted rows
 abbrev pub ExtremePlace : Extreme → List (Option Value) → Option ℕ → Type 0
 ExtremePlace Least rows place = LeastBelow rows (length rows) place
 ExtremePlace Greatest rows place = GreatestBelow rows (length rows) place
+
+-- the first place of so many equal rows, where there is one and it is a value
+abbrev pub FirstValue : ℕ → Option Value → Option ℕ → Type 0
+FirstValue n row None = 0 < n → row ≡ None
+FirstValue n row (Some i) = (i ≡ 0) × (0 < n) × (is_some row ≡ true)

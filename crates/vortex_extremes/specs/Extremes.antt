@@ -1,12 +1,12 @@
 -- The least and the greatest value of a column.
 use Rattle.std.specs.Prelude.{◌≡◌, ◌<◌, ℕ, Bool, true, IsTrue, List, length, All, Contains, Option, Some, None, is_some, slice_index_or}
 use Rattle.vortex_types.specs.Order.{compares}
-use Rattle.vortex_types.specs.Row.{TypedRow}
+use Rattle.vortex_types.specs.Row.{Column, TypedRow}
 use Rattle.vortex_types.specs.declared.scalar.Value.{Value}
 use Rattle.vortex_types.specs.declared.types.DType.{DType}
 use Rattle.vortex_types.specs.declared.types.DType.TheVariants as dtype
 use Rattle.vortex_types.specs.declared.types.Nullability.TheVariants.{NonNullable}
-use Rattle.vortex_compute.specs.declared.compare.CompareOperator.TheVariants.{Lte, Gte}
+use Rattle.vortex_compute.specs.declared.compare.CompareOperator.TheVariants.{Lte}
 use Rattle.vortex_extremes.specs.InOrder.{at_most}
 
 -- the same type, without nulls
@@ -25,7 +25,14 @@ pub record IsLeast (rows : List (Option Value)) (v : Value) : Type 0 where
 -- the value is a row, and every row that is a value is at most it
 pub record IsGreatest (rows : List (Option Value)) (v : Value) : Type 0 where
   pub among : Contains rows (Some v)
-  pub bound : (w : Value) → Contains rows (Some w) → IsTrue (compares Gte v w)
+  pub bound : (w : Value) → Contains rows (Some w) → IsTrue (compares Lte w v)
+
+-- two scalars of the type without nulls: the least value of a column, and the greatest
+pub record AreExtremes (c : Column) (min max : TypedRow) : Type 0 where
+  pub min_type : min.dtype ≡ full_form c.dtype
+  pub max_type : max.dtype ≡ full_form c.dtype
+  pub least : (v : Value) × (min.value ≡ Some v) × IsLeast c.rows v
+  pub greatest : (v : Value) × (max.value ≡ Some v) × IsGreatest c.rows v
 
 -- no row is a value
 abbrev pub HasNoValue : List (Option Value) → Type 0

@@ -3,9 +3,10 @@ ghost use Rattle.std.specs.Prelude.{◌≡◌, ◌↔◌, IsTrue, Some, is_some,
 ghost use Rattle.vortex_types.specs.Order.{row_cmp, value_cmp};
 ghost use Rattle.vortex_types.specs.Seen.{value_seen};
 ghost use Rattle.vortex_columns.specs.Kinds.{bool_column, decimal_column};
-ghost use Rattle.vortex_extremes.specs.Asked.{Holds};
+ghost use Rattle.vortex_extremes.specs.Asked.{ExtremePlace, Holds};
 
 use crate::order::{OrderedRows, RowOrder, are_ordered};
+use crate::places::{Extreme, extreme_place};
 use std::cmp::Ordering;
 use vortex_columns::{BoolArray, DecimalArray, VarBinViewArray};
 use vortex_types::ValueRef;
@@ -114,4 +115,25 @@ pub fn texts_are(array: &VarBinViewArray, order: RowOrder) -> bool
     ensures { IsTrue result ↔ Holds order array.now.rows }
 {
     are_ordered(array, order)
+}
+
+/// The place of an extreme value of a column of truth values, or none where no row is a value.
+pub fn bools_place(array: &BoolArray, extreme: Extreme) -> Option<usize>
+    ensures { ExtremePlace extreme (bool_column array.now).rows result }
+{
+    extreme_place(array, extreme)
+}
+
+/// The place of an extreme value of a column of decimals, or none where no row is a value.
+pub fn decimals_place(array: &DecimalArray, extreme: Extreme) -> Option<usize>
+    ensures { ExtremePlace extreme (decimal_column array.now).rows result }
+{
+    extreme_place(array, extreme)
+}
+
+/// The place of an extreme value of a column of texts or bytes, or none where no row is a value.
+pub fn texts_place(array: &VarBinViewArray, extreme: Extreme) -> Option<usize>
+    ensures { ExtremePlace extreme array.now.rows result }
+{
+    extreme_place(array, extreme)
 }

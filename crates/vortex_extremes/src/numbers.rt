@@ -89,3 +89,32 @@ pub fn numbers_are(array: &PrimitiveArray, order: RowOrder) -> bool
         PrimitiveBuffer::I64(items) => items_are(items, array.validity(), order),
     }
 }
+
+// The place of an extreme value of numbers of one width, or none where no row is a value.
+fn items_place<T: NativeValue>(
+    items: &Buffer<T>,
+    validity: &Validity,
+    extreme: Extreme,
+) -> Option<usize>
+    requires { IsTrue (is_as_long validity.now (length (map T.number items.now))) }
+    ensures { ExtremePlace extreme (rows_under validity.now (map (λ n. values.Int n) (map T.number items.now))) result }
+{
+    let items = items.as_slice();
+    extreme_place(&Numbers { items, validity }, extreme)
+}
+
+/// The place of an extreme value of a column of whole numbers, or none where no row is a value.
+pub fn numbers_place(array: &PrimitiveArray, extreme: Extreme) -> Option<usize>
+    ensures { ExtremePlace extreme (primitive_column array.now).rows result }
+{
+    match array.values() {
+        PrimitiveBuffer::U8(items) => items_place(items, array.validity(), extreme),
+        PrimitiveBuffer::U16(items) => items_place(items, array.validity(), extreme),
+        PrimitiveBuffer::U32(items) => items_place(items, array.validity(), extreme),
+        PrimitiveBuffer::U64(items) => items_place(items, array.validity(), extreme),
+        PrimitiveBuffer::I8(items) => items_place(items, array.validity(), extreme),
+        PrimitiveBuffer::I16(items) => items_place(items, array.validity(), extreme),
+        PrimitiveBuffer::I32(items) => items_place(items, array.validity(), extreme),
+        PrimitiveBuffer::I64(items) => items_place(items, array.validity(), extreme),
+    }
+}

@@ -5,12 +5,15 @@
 mod arrays;
 mod batch;
 mod compare;
+mod convert;
+mod orders;
 mod select;
 mod single;
 mod take;
 
 pub use arrays::Array;
 pub use batch::RecordBatch;
+pub use vortex_casts::CastError;
 pub use vortex_columns::{
     BoolArray, ConstantArray, DecimalArray, DecimalBuffer, DecimalValue, LengthMismatch,
     PrimitiveArray, PrimitiveBuffer, PushError, Validity, VarBinViewArray, VarBinViewBuilder,

@@ -1,5 +1,5 @@
 // Columns of texts and of bytes.
-ghost use Rattle.std.specs.Prelude.{◌≡◌, ◌<◌, ◌==◌, ◌++◌, ◌∷◌, ◌||◌, [], IsTrue, IsFalse, IfOk, IfErr, OnOk, OnErr, IsUtf8, None, Some, is_some, length, map, option_copied, option_map, slice_index_or};
+ghost use Rattle.std.specs.Prelude.{◌≡◌, ◌<◌, ◌==◌, ◌++◌, ◌∷◌, ◌||◌, [], All, IsTrue, IsFalse, IfOk, IfErr, OnOk, OnErr, IsUtf8, None, Some, is_some, length, map, option_copied, option_map, slice_index_or};
 ghost use Rattle.vortex_buffer.specs.Mask.{mask_bits};
 ghost use Rattle.vortex_types.specs.Row.{fits_type, is_nullable};
 ghost use Rattle.vortex_types.specs.Seen.{value_seen};
@@ -165,6 +165,7 @@ impl VarBinViewArray {
     pub fn dtype(&self) -> DType
         ensures value { result ≡ self.now.dtype }
         ensures kind { IsTrue (is_bytes_type self.now.dtype) }
+        ensures fits { All (λ row. IsTrue (fits_type self.now.dtype row)) self.now.rows }
     {
         self.dtype
     }

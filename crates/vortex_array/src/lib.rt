@@ -4,8 +4,6 @@
 
 mod arrays;
 mod batch;
-#[cfg(test)]
-mod tests;
 
 pub use arrays::Array;
 pub use batch::RecordBatch;

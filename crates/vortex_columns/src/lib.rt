@@ -7,6 +7,8 @@ mod constant;
 mod decimal;
 mod primitive;
 mod select;
+#[cfg(test)]
+mod tests;
 mod validity;
 mod var_bin;
 

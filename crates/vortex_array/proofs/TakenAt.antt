@@ -172,7 +172,7 @@ one-taken-by f row n w places h =
 pub equal-below : (row : TypedRow) (place : ℕ) (w : Validity) (m n : ℕ) → IsIndex row place w → All (IndexBelow n) (replicate m row.value) → PlacesBelow n w (map (λ i. i) (replicate m place))
 equal-below row place w m n is h =
     places-below n w (map (λ i. i) (replicate m place)) (equal-long row place w (length (map (λ (i : ℕ). i) (replicate m place))) is)
-      (subst (λ (rs : List (Option Value)). All (IndexBelow n) rs) (sym (equal-rows row place w m is)) h)
+    (subst (λ (rs : List (Option Value)). All (IndexBelow n) rs) (sym (equal-rows row place w m is)) h)
 
 -- numbers below n as indices are places below n
 pub numbers-below : {P : Type 0} (f : P → ℕ) (n : ℕ) (w : Validity) (places : List P) → IsTrue (is_as_long w (length (map (λ p. pos (f p)) places))) → All (IndexBelow n) (number_column w (map (λ p. pos (f p)) places)).rows → PlacesBelow n w (map f places)

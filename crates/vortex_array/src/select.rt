@@ -94,12 +94,7 @@ impl RecordBatch {
 }
 
 // The first `k` rows of columns of so many rows.
-fn heads(
-    alloc: Global,
-    rows: usize,
-    columns: &[Array],
-    k: usize,
-) -> Result<Vec<Array>, AllocError>
+fn heads(alloc: Global, rows: usize, columns: &[Array], k: usize) -> Result<Vec<Array>, AllocError>
     requires short { k ≤ rows }
     requires same_length { All (HasRows rows) columns.now }
     ensures { IfOk result (λ heads. AllZip (IsHeadOf k) columns.now heads.items) }

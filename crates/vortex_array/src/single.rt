@@ -114,11 +114,7 @@ fn number_in(row: Option<ValueRef<'_>>) -> i128
 }
 
 // A buffer of one number of a width.
-fn numbers_of_one(
-    alloc: Global,
-    width: PType,
-    number: i128,
-) -> Result<PrimitiveBuffer, AllocError>
+fn numbers_of_one(alloc: Global, width: PType, number: i128) -> Result<PrimitiveBuffer, AllocError>
     requires { IsTrue (in_width width number) }
     ensures numbers { IfOk result (λ b. numbers_of b ≡ number ∷ []) }
     ensures width { IfOk result (λ b. ptype_of b ≡ width) }
@@ -216,11 +212,7 @@ fn unscaled_of_one(alloc: Global, number: i128) -> Result<DecimalBuffer, AllocEr
 }
 
 // One text, one row of bytes, or null.
-fn one_text(
-    alloc: Global,
-    dtype: DType,
-    row: Option<ValueRef<'_>>,
-) -> Result<Array, AllocError>
+fn one_text(alloc: Global, dtype: DType, row: Option<ValueRef<'_>>) -> Result<Array, AllocError>
     requires kind { IsTrue (is_bytes_type dtype) }
     requires fits { IsTrue (fits_type dtype (option_map value_seen row)) }
     ensures column { IfOk result (λ a. column_of a ≡ record { dtype = dtype; rows = option_map value_seen row.entry ∷ [] }) }

@@ -60,7 +60,7 @@ sliced-long (Bits bits) n i j k e order within is =
 -- a part of a column is a part of its values and of its validity
 pub sliced-column : {X : Type 0} (t : Nullability → DType) (f : X → Value) (v : Validity) (xs : List X) (i j : ℕ)
     → column_with (t (nullability_of (sliced_validity i j v))) (rows_under (sliced_validity i j v) (map f (slice_range xs i j)))
-      ≡ sliced i j (column_with (t (nullability_of v)) (rows_under v (map f xs)))
+    ≡ sliced i j (column_with (t (nullability_of v)) (rows_under v (map f xs)))
 sliced-column t f v xs i j = same-column _ _ _ _ (ap t (sliced-nulls v i j)) (ap (rows_under (sliced_validity i j v)) (sym (slice-map f xs i j)) ∙ rows-sliced v (map f xs) i j)
 
 -- the rows that a mask keeps are the values that it keeps, under what it keeps of the validity
@@ -88,7 +88,7 @@ kept-long set (Bits bits) xs e same =
 -- what a mask keeps of a column is what it keeps of its values and of its validity
 pub kept-column : {X : Type 0} (t : Nullability → DType) (f : X → Value) (set : List Bool) (v : Validity) (xs : List X)
     → column_with (t (nullability_of (kept_validity set v))) (rows_under (kept_validity set v) (map f (kept_by set xs)))
-      ≡ filtered set (column_with (t (nullability_of v)) (rows_under v (map f xs)))
+    ≡ filtered set (column_with (t (nullability_of v)) (rows_under v (map f xs)))
 kept-column t f set v xs = same-column _ _ _ _ (ap t (kept-nulls set v)) (ap (rows_under (kept_validity set v)) (sym (kept_by-map f set xs)) ∙ rows-kept set v (map f xs))
 
 -- a mask that is as long as the rows is as long as the values

@@ -153,7 +153,7 @@ taken_nulls t (Bits set) v places h = ap t (nulls_where set places v) ∙ sym (h
 pub taken-column : {X : Type 0} (t : Nullability → DType) (f : X → Value) (d : X) (w v : Validity) (xs : List X) (places : List ℕ)
     → ((n : Nullability) → nullable_form (t n) ≡ t nulls.Nullable) → IsTrue (is_as_long v (length xs)) → IsTrue (is_as_long w (length places)) → PlacesBelow (length xs) w places
     → column_with (t (nullability_of (taken_validity w places v))) (rows_under (taken_validity w places v) (map f (taken_values d w xs places)))
-      ≡ taken (index_column w places) (column_with (t (nullability_of v)) (rows_under v (map f xs)))
+    ≡ taken (index_column w places) (column_with (t (nullability_of v)) (rows_under v (map f xs)))
 taken-column t f d w v xs places h e l b = same-column _ _ _ _ (taken_nulls t w v places h) (taken_rows f d w v xs places e l b)
 
 below_valid : (n : ℕ) (places : List ℕ) → All (IndexBelow n) (index_rows AllValid places) → All (λ i. i < n) places

@@ -156,6 +156,6 @@ rows_taken t (Bits set) lists present places e =
 -- rows at places are the lists there
 pub taken-bytes : (t : DType) (w : Validity) (lists : List (List ℕ)) (present : List Bool) (places : List ℕ) → length present ≡ length lists
     → column_with (taken_type w t) (bytes_rows (taken_type w t) (taken_values [] w lists places) (taken_values false w present places))
-      ≡ taken (index_column w places) (column_with t (bytes_rows t lists present))
+    ≡ taken (index_column w places) (column_with t (bytes_rows t lists present))
 taken-bytes t w lists present places e =
     ap (column_with (taken_type w t)) (type_bytes t w (taken_values [] w lists places) (taken_values false w present places) ∙ rows_taken t w lists present places e)

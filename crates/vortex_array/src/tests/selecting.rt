@@ -223,9 +223,11 @@ fn filters(alloc: Global, whole: &Array, mask: &Mask) -> Result<bool, AllocError
 fn filters_sample(alloc: Global, kind: u8, form: u8, len: usize) -> Result<bool, AllocError> {
     let whole = sample(alloc, kind, form, len)?;
     let some = Mask::from_buffer(some_bits(alloc, len)?);
-    Ok(filters(alloc, &whole, &Mask::new_true(len))?
-        && filters(alloc, &whole, &Mask::new_false(len))?
-        && filters(alloc, &whole, &some)?)
+    Ok(
+        filters(alloc, &whole, &Mask::new_true(len))?
+            && filters(alloc, &whole, &Mask::new_false(len))?
+            && filters(alloc, &whole, &some)?,
+    )
 }
 
 #[test]

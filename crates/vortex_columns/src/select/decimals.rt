@@ -106,7 +106,12 @@ fn take_unscaled<T: DecimalWidth, P: Place>(
 
 impl DecimalBuffer {
     /// The numbers from `start` up to `end`, without it.
-    pub fn slice(&self, alloc: Global, start: usize, end: usize) -> Result<DecimalBuffer, AllocError>
+    pub fn slice(
+        &self,
+        alloc: Global,
+        start: usize,
+        end: usize,
+    ) -> Result<DecimalBuffer, AllocError>
         requires order { start ≤ end }
         requires within { end ≤ length (unscaled_of self.now) }
         ensures { IfOk result (λ b. unscaled_of b ≡ slice_range (unscaled_of self.now) start end) }

@@ -28,11 +28,7 @@ impl VarBinViewArray {
         let (lists, present) = self.parts();
         let part = lists.slice(alloc, start, end)?;
         let part_present = slice_items(alloc, present, start, end)?;
-        Ok(VarBinViewArray::from_parts(
-            self.dtype(),
-            part,
-            part_present.into_vec(),
-        ))
+        Ok(VarBinViewArray::from_parts(self.dtype(), part, part_present.into_vec()))
     }
 
     /// The rows that the mask keeps, in their order.
@@ -43,11 +39,7 @@ impl VarBinViewArray {
         let (lists, present) = self.parts();
         let kept = lists.filter(alloc, mask)?;
         let kept_present = filter_items(alloc, present, mask)?;
-        Ok(VarBinViewArray::from_parts(
-            self.dtype(),
-            kept,
-            kept_present.into_vec(),
-        ))
+        Ok(VarBinViewArray::from_parts(self.dtype(), kept, kept_present.into_vec()))
     }
 
     /// The rows at the places, in the order of the places; null where a place is null. A place may come again, and one

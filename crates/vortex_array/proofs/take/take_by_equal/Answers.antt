@@ -13,9 +13,9 @@ take_at-requires-clause-within c =
     let is = index-is row c.requires.kind fits in
     let nulls : c.index_nulls-nulls.result ≡ nulls_of_index row = c.index_nulls-nulls.ensures.nulls ∙ ap nulls_of_index c.scalar.ensures in
     let places : c.as_slice.result.now ≡ replicate c.args.index.now.len (place_of_index row) =
-        c.as_slice.ensures.value ∙ c.in_ok-places.ensures
-        ∙ ap (λ p. replicate c.len.result p) (c.index_place.ensures ∙ ap place_of_index c.scalar-2.ensures)
-        ∙ ap (λ n. replicate n (place_of_index row)) c.len.ensures.count in
+    c.as_slice.ensures.value ∙ c.in_ok-places.ensures
+    ∙ ap (λ p. replicate c.len.result p) (c.index_place.ensures ∙ ap place_of_index c.scalar-2.ensures)
+    ∙ ap (λ n. replicate n (place_of_index row)) c.len.ensures.count in
     rw (places, nulls)
     (equal-below row (place_of_index row) (nulls_of_index row) c.args.index.now.len (length (column_of c.args.array.now).rows) is c.requires.below)
 
@@ -26,8 +26,8 @@ returns-clause-column c =
     let is = index-is row c.requires.kind fits in
     let nulls : c.index_nulls-nulls.result ≡ nulls_of_index row = c.index_nulls-nulls.ensures.nulls ∙ ap nulls_of_index c.scalar.ensures in
     let places : c.as_slice.result.now ≡ replicate c.args.index.now.len (place_of_index row) =
-        c.as_slice.ensures.value ∙ c.in_ok-places.ensures
-        ∙ ap (λ p. replicate c.len.result p) (c.index_place.ensures ∙ ap place_of_index c.scalar-2.ensures)
-        ∙ ap (λ n. replicate n (place_of_index row)) c.len.ensures.count in
+    c.as_slice.ensures.value ∙ c.in_ok-places.ensures
+    ∙ ap (λ p. replicate c.len.result p) (c.index_place.ensures ∙ ap place_of_index c.scalar-2.ensures)
+    ∙ ap (λ n. replicate n (place_of_index row)) c.len.ensures.count in
     c.in_ok-part.ensures.column
     ∙ rw (places, nulls) (equal-taken row (place_of_index row) (nulls_of_index row) c.args.index.now.len (column_of c.args.array.now) is)

@@ -16,7 +16,7 @@ filter_bits-requires c = record { same_length = rw c.bits.ensures (mask-same (λ
 pub unreachable-requires : goal.unreachable-requires
 unreachable-requires c =
     let long : IsTrue (is_as_long c.in_ok-validity.validity (length c.in_ok-bits.bits)) =
-        rw (c.in_ok-validity.ensures, c.in_ok-bits.ensures.ok, c.validity.ensures.value, c.bits.ensures) (kept-long (mask_bits c.args.mask.now) c.args.self.now.validity c.args.self.now.bits c.validity.ensures.fits (mask-same (λ b. value.Bool b) c.args.self.now.validity c.args.self.now.bits (mask_bits c.args.mask.now) c.validity.ensures.fits c.requires)) in
+    rw (c.in_ok-validity.ensures, c.in_ok-bits.ensures.ok, c.validity.ensures.value, c.bits.ensures) (kept-long (mask_bits c.args.mask.now) c.args.self.now.validity c.args.self.now.bits c.validity.ensures.fits (mask-same (λ b. value.Bool b) c.args.self.now.validity c.args.self.now.bits (mask_bits c.args.mask.now) c.validity.ensures.fits c.requires)) in
     cc (long, c.in-Err.ensures.err)
 
 pub returns : goal.returns

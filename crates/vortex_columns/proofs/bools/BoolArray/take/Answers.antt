@@ -17,8 +17,8 @@ take_bits_under-requires-clause-within g c = rw c.bits.ensures (below-values (λ
 pub unreachable-requires : goal.unreachable-requires
 unreachable-requires g c =
     let long : IsTrue (is_as_long c.in_ok-validity.validity (length c.in_ok-bits.bits)) =
-        rw (c.in_ok-validity.ensures, c.in_ok-bits.ensures, c.validity.ensures.value, c.bits.ensures)
-        (taken-long c.args.nulls.now c.args.self.now.validity (map g.P.Place.place c.args.places.now) _ (long-places g.P.Place.place c.args.nulls.now c.args.places.now c.requires.long) (length-taken_values false c.args.nulls.now c.args.self.now.bits (map g.P.Place.place c.args.places.now) (long-places g.P.Place.place c.args.nulls.now c.args.places.now c.requires.long))) in
+    rw (c.in_ok-validity.ensures, c.in_ok-bits.ensures, c.validity.ensures.value, c.bits.ensures)
+    (taken-long c.args.nulls.now c.args.self.now.validity (map g.P.Place.place c.args.places.now) _ (long-places g.P.Place.place c.args.nulls.now c.args.places.now c.requires.long) (length-taken_values false c.args.nulls.now c.args.self.now.bits (map g.P.Place.place c.args.places.now) (long-places g.P.Place.place c.args.nulls.now c.args.places.now c.requires.long))) in
     cc (long, c.in-Err.ensures.err)
 
 pub returns : goal.returns

@@ -17,7 +17,7 @@ filter-requires-2 c = rw c.values.ensures (mask-same (λ n. value.Int n) c.args.
 pub unreachable-requires : goal.unreachable-requires
 unreachable-requires c =
     let long : IsTrue (is_as_long c.in_ok-validity.validity (length (numbers_of c.in_ok-values.values))) =
-        rw (c.in_ok-validity.ensures, c.in_ok-values.ensures.numbers, c.validity.ensures.value, c.values.ensures) (kept-long (mask_bits c.args.mask.now) c.args.self.now.validity (numbers_of c.args.self.now.values) c.validity.ensures.fits (mask-same (λ n. value.Int n) c.args.self.now.validity (numbers_of c.args.self.now.values) (mask_bits c.args.mask.now) c.validity.ensures.fits c.requires)) in
+    rw (c.in_ok-validity.ensures, c.in_ok-values.ensures.numbers, c.validity.ensures.value, c.values.ensures) (kept-long (mask_bits c.args.mask.now) c.args.self.now.validity (numbers_of c.args.self.now.values) c.validity.ensures.fits (mask-same (λ n. value.Int n) c.args.self.now.validity (numbers_of c.args.self.now.values) (mask_bits c.args.mask.now) c.validity.ensures.fits c.requires)) in
     cc (long, c.in-Err.ensures.err)
 
 pub returns : goal.returns

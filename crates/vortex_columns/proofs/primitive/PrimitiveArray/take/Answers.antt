@@ -18,8 +18,8 @@ take-requires-2-clause-within g c = rw c.values.ensures (below-values (λ n. val
 pub unreachable-requires : goal.unreachable-requires
 unreachable-requires g c =
     let long : IsTrue (is_as_long c.in_ok-validity.validity (length (numbers_of c.in_ok-values.values))) =
-        rw (c.in_ok-validity.ensures, c.in_ok-values.ensures.numbers, c.validity.ensures.value, c.values.ensures)
-        (taken-long c.args.nulls.now c.args.self.now.validity (map g.P.Place.place c.args.places.now) _ (long-places g.P.Place.place c.args.nulls.now c.args.places.now c.requires.long) (length-taken_values (pos 0) c.args.nulls.now (numbers_of c.args.self.now.values) (map g.P.Place.place c.args.places.now) (long-places g.P.Place.place c.args.nulls.now c.args.places.now c.requires.long))) in
+    rw (c.in_ok-validity.ensures, c.in_ok-values.ensures.numbers, c.validity.ensures.value, c.values.ensures)
+    (taken-long c.args.nulls.now c.args.self.now.validity (map g.P.Place.place c.args.places.now) _ (long-places g.P.Place.place c.args.nulls.now c.args.places.now c.requires.long) (length-taken_values (pos 0) c.args.nulls.now (numbers_of c.args.self.now.values) (map g.P.Place.place c.args.places.now) (long-places g.P.Place.place c.args.nulls.now c.args.places.now c.requires.long))) in
     cc (long, c.in-Err.ensures.err)
 
 pub returns : goal.returns

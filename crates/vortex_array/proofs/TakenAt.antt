@@ -18,7 +18,7 @@ use Rattle.vortex_columns.specs.Selected.{IndexBelow, is_index_type, row_at, tak
 use Rattle.vortex_columns.specs.SelectedParts.{PlacesBelow, index_column}
 use Rattle.vortex_columns.specs.declared.validity.Validity.{Validity}
 use Rattle.vortex_columns.specs.declared.validity.Validity.TheVariants.{NonNullable, AllValid, AllInvalid, Bits}
-use Rattle.vortex_columns.proofs.SelectedRows.{bits-long, column_with, same-column}
+use Rattle.vortex_columns.proofs.SelectedRows.{column_with, same-column}
 use Rattle.vortex_columns.proofs.TakenRows.{at_nulls, at_places, at_set, index_rows, places-below}
 use Rattle.vortex_array.specs.Index.{nulls_of_index, number_column, place_of, place_of_index}
 

@@ -21,3 +21,6 @@ pub use values::{
     compare_decimal_value, compare_list_value, compare_number_value, compare_truth_value,
     compare_values, equal_answers, null_answers, order_of,
 };
+
+#[cfg(test)]
+mod tests;

@@ -5,10 +5,12 @@
 mod arrays;
 mod batch;
 mod convert;
+mod min_max;
 mod orders;
 
 pub use arrays::Array;
 pub use batch::RecordBatch;
+pub use min_max::MinMax;
 pub use vortex_casts::CastError;
 pub use vortex_columns::{
     BoolArray, ConstantArray, DecimalArray, DecimalBuffer, DecimalValue, LengthMismatch,

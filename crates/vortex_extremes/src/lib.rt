@@ -15,3 +15,4 @@ pub use lent::{
 pub use numbers::{numbers_are, numbers_place};
 pub use order::RowOrder;
 pub use places::Extreme;
+

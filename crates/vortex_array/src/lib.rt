@@ -6,6 +6,7 @@ mod arrays;
 mod batch;
 mod compare;
 mod convert;
+mod min_max;
 mod orders;
 mod select;
 mod single;
@@ -13,6 +14,7 @@ mod take;
 
 pub use arrays::Array;
 pub use batch::RecordBatch;
+pub use min_max::MinMax;
 pub use vortex_casts::CastError;
 pub use vortex_columns::{
     BoolArray, ConstantArray, DecimalArray, DecimalBuffer, DecimalValue, LengthMismatch,

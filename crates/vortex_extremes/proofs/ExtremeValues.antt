@@ -4,14 +4,14 @@ use Rattle.std.specs.Prelude.{IsTrue, is_some, Contains, All, replicate}
 use Rattle.std.proofs.lemmas.Bool.{false≢true}
 use Rattle.std.proofs.lemmas.List.{get_or_default, get_or-replicate, length-replicate}
 use Rattle.vortex_types.specs.Order.{compares}
-use Rattle.vortex_types.specs.Row.{value_fits}
+use Rattle.vortex_types.specs.Row.{Column, TypedRow, value_fits}
 use Rattle.vortex_types.specs.declared.types.DType.{DType}
 use Rattle.vortex_types.specs.declared.types.DType.TheVariants as dtype
 use Rattle.vortex_types.specs.declared.scalar.Value.{Value}
 use Rattle.vortex_types.specs.declared.scalar.Value.TheVariants.{Bool as Truth, Int, Decimal, Utf8, Binary}
 use Rattle.vortex_compute.specs.declared.compare.CompareOperator.TheVariants.{Lte}
 use Rattle.vortex_extremes.specs.InOrder.{at_most}
-use Rattle.vortex_extremes.specs.Extremes.{LeastOf, GreatestOf, NoneOf, LeastBelow, GreatestBelow, IsLeast, IsGreatest, HasNoValue, full_form}
+use Rattle.vortex_extremes.specs.Extremes.{LeastOf, GreatestOf, NoneOf, LeastBelow, GreatestBelow, AreExtremes, IsLeast, IsGreatest, HasNoValue, full_form}
 use Rattle.vortex_extremes.specs.Asked.{FirstValue}
 use Rattle.vortex_extremes.proofs.OrderLaws.{at_most-itself}
 
@@ -128,3 +128,19 @@ first-least n row (Some i) h = rw h.0 (equal-least n row h.1 h.2)
 pub first-greatest : (n : ℕ) (row : Option Value) (place : Option ℕ) → FirstValue n row place → GreatestBelow (replicate n row) (length (replicate n row)) place
 first-greatest n row None h = equal-none n row h
 first-greatest n row (Some i) h = rw h.0 (equal-greatest n row h.1 h.2)
+
+some-value : (row : Option Value) → is_some row ≡ true → (v : Value) × (row ≡ Some v)
+some-value None s = absurd (false≢true s)
+some-value (Some v) s = (v, refl)
+
+-- the rows at the extreme places, of the type without nulls, are the extreme values
+pub are-extremes : (c : Column) (min max : TypedRow) (i j : ℕ) → LeastOf c.rows (length c.rows) i → GreatestOf c.rows (length c.rows) j → min ≡ record { dtype = full_form c.dtype; value = get_or c.rows i None } → max ≡ record { dtype = full_form c.dtype; value = get_or c.rows j None } → AreExtremes c min max
+are-extremes c min max i j h k p q =
+    let v = some-value (get_or c.rows i None) h.some in
+    let w = some-value (get_or c.rows j None) k.some in
+    record {
+      min_type = ap (λ s. s.dtype) p;
+      max_type = ap (λ s. s.dtype) q;
+      least = (v.0, ap (λ s. s.value) p ∙ v.1, least-value c.rows i v.0 h v.1);
+      greatest = (w.0, ap (λ s. s.value) q ∙ w.1, greatest-value c.rows j w.0 k w.1);
+    }

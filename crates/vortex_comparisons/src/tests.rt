@@ -1,6 +1,8 @@
 // Columns of each kind compared, by worked rows.
-use crate::{compare_decimals, compare_decimals_with, compare_lists, compare_lists_with};
-use crate::{compare_truths, compare_truths_with};
+use crate::{
+    compare_decimals, compare_decimals_with, compare_lists, compare_lists_with, compare_truths,
+    compare_truths_with,
+};
 use std::alloc::{AllocError, Global};
 use std::test::Fail;
 use vortex_buffer::{BitBuffer, Buffer};

@@ -13,4 +13,3 @@ pub use lent::{bools_are, bools_place, decimals_are, decimals_place, texts_are, 
 pub use numbers::{numbers_are, numbers_place};
 pub use order::RowOrder;
 pub use places::Extreme;
-

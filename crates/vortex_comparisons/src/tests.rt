@@ -101,62 +101,79 @@ fn compared_truths(
     text_of(alloc, &answers)
 }
 
+// The texts `ab`, null and `b` compared with `abc`, null and `b`, as text.
+fn two_texts(alloc: Global, operator: CompareOperator) -> Result<String, AllocError> {
+    let left = texts(alloc, "ab", "b")?;
+    let right = texts(alloc, "abc", "b")?;
+    compared_texts(alloc, &left, &right, operator)
+}
+
+// The texts `ab`, null and `b` compared with `b`, as text.
+fn text_beside(alloc: Global, operator: CompareOperator) -> Result<String, AllocError> {
+    let left = texts(alloc, "ab", "b")?;
+    let answers = compare_lists_with(alloc, &left, b"b", Nullability::NonNullable, operator)?;
+    text_of(alloc, &answers)
+}
+
+// The decimals 1, -2 and 3 in the least width.
+fn narrow(alloc: Global) -> Result<DecimalArray, AllocError> {
+    decimals(DecimalBuffer::I8(Buffer::from_slice(alloc, &[1i8, -2, 3])?))
+}
+
+// The decimals 1, -2 and 3 compared with 1, 2 and -3 of the greatest width, as text.
+fn two_decimals(alloc: Global, operator: CompareOperator) -> Result<String, AllocError> {
+    let left = narrow(alloc)?;
+    let right = decimals(DecimalBuffer::I128(Buffer::from_slice(alloc, &[1i128, 2, -3])?))?;
+    compared_decimals(alloc, &left, &right, operator)
+}
+
+// The decimals 1, -2 and 3 compared with -2, as text.
+fn decimal_beside(alloc: Global, operator: CompareOperator) -> Result<String, AllocError> {
+    let left = narrow(alloc)?;
+    let answers = compare_decimals_with(alloc, &left, -2, Nullability::Nullable, operator)?;
+    text_of(alloc, &answers)
+}
+
+// False, false, true and true compared with false, true, false and true, as text.
+fn two_truths(alloc: Global, operator: CompareOperator) -> Result<String, AllocError> {
+    let left = four_truths(alloc, 0b1100)?;
+    let right = four_truths(alloc, 0b1010)?;
+    compared_truths(alloc, &left, &right, operator)
+}
+
+// False, false, true and true compared with true, as text.
+fn truth_beside(alloc: Global, operator: CompareOperator) -> Result<String, AllocError> {
+    let left = four_truths(alloc, 0b1100)?;
+    let answers = compare_truths_with(alloc, &left, true, Nullability::NonNullable, operator)?;
+    text_of(alloc, &answers)
+}
+
 #[test]
 fn texts_are_compared_by_their_bytes(rt: HostRuntime) -> Result<(), Fail> {
     let alloc = rt.alloc();
-    let left = texts(alloc, "ab", "b")?;
-    let right = texts(alloc, "abc", "b")?;
-    let less = compared_texts(alloc, &left, &right, CompareOperator::Lt)?;
-    assert_eq!(rt; less.as_str(), "1-0");
-    let equal = compared_texts(alloc, &left, &right, CompareOperator::Eq)?;
-    assert_eq!(rt; equal.as_str(), "0-1");
-    let beside = compare_lists_with(
-        alloc,
-        &left,
-        b"b",
-        Nullability::NonNullable,
-        CompareOperator::Gte,
-    )?;
-    assert_eq!(rt; text_of(alloc, &beside)?.as_str(), "0-1");
+    assert_eq!(rt; two_texts(alloc, CompareOperator::Lt)?.as_str(), "1-0");
+    assert_eq!(rt; two_texts(alloc, CompareOperator::Eq)?.as_str(), "0-1");
+    assert_eq!(rt; text_beside(alloc, CompareOperator::Gte)?.as_str(), "0-1");
     Ok(())
 }
 
 #[test]
 fn decimals_of_two_widths_are_compared(rt: HostRuntime) -> Result<(), Fail> {
     let alloc = rt.alloc();
-    let narrow = decimals(DecimalBuffer::I8(Buffer::from_slice(alloc, &[1i8, -2, 3])?))?;
-    let wide = decimals(DecimalBuffer::I128(Buffer::from_slice(alloc, &[1i128, 2, -3])?))?;
-    let equal = compared_decimals(alloc, &narrow, &wide, CompareOperator::Eq)?;
-    assert_eq!(rt; equal.as_str(), "100");
-    let greater = compared_decimals(alloc, &narrow, &wide, CompareOperator::Gt)?;
-    assert_eq!(rt; greater.as_str(), "001");
-    let beside = compare_decimals_with(
-        alloc,
-        &narrow,
-        -2,
-        Nullability::Nullable,
-        CompareOperator::NotEq,
-    )?;
-    assert_eq!(rt; text_of(alloc, &beside)?.as_str(), "101");
+    assert_eq!(rt; two_decimals(alloc, CompareOperator::Eq)?.as_str(), "100");
+    assert_eq!(rt; two_decimals(alloc, CompareOperator::Gt)?.as_str(), "001");
+    assert_eq!(rt;
+        decimal_beside(alloc, CompareOperator::NotEq)?.as_str(),
+        "101"
+    );
     Ok(())
 }
 
 #[test]
 fn false_is_below_true(rt: HostRuntime) -> Result<(), Fail> {
     let alloc = rt.alloc();
-    let left = four_truths(alloc, 0b1100)?;
-    let right = four_truths(alloc, 0b1010)?;
-    let less = compared_truths(alloc, &left, &right, CompareOperator::Lt)?;
-    assert_eq!(rt; less.as_str(), "0100");
-    let at_least = compared_truths(alloc, &left, &right, CompareOperator::Gte)?;
-    assert_eq!(rt; at_least.as_str(), "1011");
-    let beside = compare_truths_with(
-        alloc,
-        &left,
-        true,
-        Nullability::NonNullable,
-        CompareOperator::Eq,
-    )?;
-    assert_eq!(rt; text_of(alloc, &beside)?.as_str(), "0011");
+    assert_eq!(rt; two_truths(alloc, CompareOperator::Lt)?.as_str(), "0100");
+    assert_eq!(rt; two_truths(alloc, CompareOperator::Gte)?.as_str(), "1011");
+    assert_eq!(rt; truth_beside(alloc, CompareOperator::Eq)?.as_str(), "0011");
     Ok(())
 }

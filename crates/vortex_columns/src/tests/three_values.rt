@@ -73,30 +73,60 @@ fn both_text(alloc: Global, left: &BoolArray, right: &BoolArray) -> Result<Strin
     text_of(alloc, &both)
 }
 
+// The conjunction of two columns of three rows, as text.
+fn and_of(alloc: Global, left: (u64, u64), right: (u64, u64)) -> Result<String, AllocError> {
+    let left = three_rows(alloc, left.0, left.1)?;
+    let right = three_rows(alloc, right.0, right.1)?;
+    and_text(alloc, &left, &right)
+}
+
+// The disjunction of two columns of three rows, as text.
+fn or_of(alloc: Global, left: (u64, u64), right: (u64, u64)) -> Result<String, AllocError> {
+    let left = three_rows(alloc, left.0, left.1)?;
+    let right = three_rows(alloc, right.0, right.1)?;
+    or_text(alloc, &left, &right)
+}
+
+// Whether both of three rows are true, as text.
+fn both_of(alloc: Global, left: (u64, u64), right: (u64, u64)) -> Result<String, AllocError> {
+    let left = three_rows(alloc, left.0, left.1)?;
+    let right = three_rows(alloc, right.0, right.1)?;
+    both_text(alloc, &left, &right)
+}
+
+// The negation of three rows, as text.
+fn negation_of(alloc: Global, rows: (u64, u64)) -> Result<String, AllocError> {
+    let rows = three_rows(alloc, rows.0, rows.1)?;
+    let negated = rows.negate(alloc)?;
+    text_of(alloc, &negated)
+}
+
+// The mask of the true ones of three rows, as text.
+fn true_mask_of(alloc: Global, rows: (u64, u64)) -> Result<String, AllocError> {
+    let rows = three_rows(alloc, rows.0, rows.1)?;
+    let mask = rows.true_mask(alloc)?;
+    text_of_mask(alloc, &mask)
+}
+
 #[test]
 fn truth_values_are_joined_in_three_values(rt: HostRuntime) -> Result<(), Fail> {
     let alloc = rt.alloc();
-    let rows = three_rows(alloc, 0b001, 0b101)?;
-    let nulls = three_rows(alloc, 0b110, 0b000)?;
-    let trues = three_rows(alloc, 0b111, 0b111)?;
-    assert_eq!(rt; text_of(alloc, &rows)?.as_str(), "1-0");
-    assert_eq!(rt; and_text(alloc, &rows, &nulls)?.as_str(), "--0");
-    assert_eq!(rt; or_text(alloc, &rows, &nulls)?.as_str(), "1--");
-    assert_eq!(rt; and_text(alloc, &rows, &trues)?.as_str(), "1-0");
-    assert_eq!(rt; or_text(alloc, &rows, &trues)?.as_str(), "111");
-    assert_eq!(rt; both_text(alloc, &rows, &nulls)?.as_str(), "---");
-    assert_eq!(rt; both_text(alloc, &rows, &trues)?.as_str(), "1-0");
+    let rows = (0b001, 0b101);
+    let nulls = (0b110, 0b000);
+    let trues = (0b111, 0b111);
+    assert_eq!(rt; and_of(alloc, rows, nulls)?.as_str(), "--0");
+    assert_eq!(rt; or_of(alloc, rows, nulls)?.as_str(), "1--");
+    assert_eq!(rt; and_of(alloc, rows, trues)?.as_str(), "1-0");
+    assert_eq!(rt; or_of(alloc, rows, trues)?.as_str(), "111");
+    assert_eq!(rt; both_of(alloc, rows, nulls)?.as_str(), "---");
+    assert_eq!(rt; both_of(alloc, rows, trues)?.as_str(), "1-0");
     Ok(())
 }
 
 #[test]
 fn a_negation_keeps_nulls_and_a_true_mask_drops_them(rt: HostRuntime) -> Result<(), Fail> {
     let alloc = rt.alloc();
-    let rows = three_rows(alloc, 0b011, 0b101)?;
-    assert_eq!(rt; text_of(alloc, &rows.negate(alloc)?)?.as_str(), "0-1");
-    assert_eq!(rt;
-        text_of_mask(alloc, &rows.true_mask(alloc)?)?.as_str(),
-        "100"
-    );
+    assert_eq!(rt; negation_of(alloc, (0b011, 0b101))?.as_str(), "0-1");
+    assert_eq!(rt; true_mask_of(alloc, (0b011, 0b101))?.as_str(), "100");
     Ok(())
 }

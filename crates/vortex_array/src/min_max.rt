@@ -62,12 +62,7 @@ impl Array {
     }
 
     // The values at two places, the least and the greatest.
-    fn min_max_at(
-        &self,
-        alloc: Global,
-        least: usize,
-        greatest: usize,
-    ) -> Result<MinMax, AllocError>
+    fn min_max_at(&self, alloc: Global, least: usize, greatest: usize) -> Result<MinMax, AllocError>
         requires least { LeastOf (column_of self.now).rows (length (column_of self.now).rows) least }
         requires greatest { GreatestOf (column_of self.now).rows (length (column_of self.now).rows) greatest }
         ensures { IfOk result (λ m. AreExtremes (column_of self.now) m.min m.max) }

@@ -5,9 +5,7 @@ ghost use Rattle.vortex_extremes.specs.Asked.{Holds};
 ghost use Rattle.vortex_extremes.specs.InOrder.{IsConstant, IsSorted, IsStrictlySorted};
 
 use crate::arrays::Array;
-use vortex_extremes::{
-    RowOrder, bools_are, decimals_are, equal_rows_are, numbers_are, texts_are,
-};
+use vortex_extremes::{RowOrder, bools_are, decimals_are, equal_rows_are, numbers_are, texts_are};
 
 impl Array {
     // Whether the rows stand in the order that is asked for.

@@ -18,7 +18,6 @@ use Rattle.vortex_casts.specs.Casts.{IsCast, StopsAt, RefusesCast}
 use Rattle.vortex_casts.specs.Lanes.{NoNull, FirstNull, FirstOutside, SameWhereValid, WithinWhereValid, RefusesNumbers, validity_with, earlier}
 use Rattle.vortex_casts.proofs.CastRows.{long-with, type-with, valid-with, same-rows, all-fit, nulls-fit, null-stops, value-stops, some-at}
 
-
 -- a column of whole numbers
 abbrev pub number_column : PType → Nullability → Validity → List ℤ → Column
 number_column p m v xs = record { dtype = Primitive p m; rows = rows_under v (map (λ n. value.Int n) xs) }

@@ -51,10 +51,10 @@ pub same-rows : {X Y : Type 0} (f : X → Y) (v w : Validity) (xs ys : List X) (
 same-rows f v w xs ys d e g long nulls same =
     ext_get_or None (rows_under w (map f ys)) (rows_under v (map f xs)) (length-rows-map f w ys g ∙ long ∙ sym (length-rows-map f v xs e))
     (λ i l.
-      let inside : i < length xs = omega (arith, l, long, length-rows-map f w ys g) in
-      sym (row-at f w ys i d g (omega (arith, inside, long)))
-      ∙ one-row (f (get_or xs i d)) (f (get_or ys i d)) (valid_at v i) (valid_at w i) (nulls i inside) (λ t. ap f (same i inside t))
-      ∙ row-at f v xs i d e inside)
+    let inside : i < length xs = omega (arith, l, long, length-rows-map f w ys g) in
+    sym (row-at f w ys i d g (omega (arith, inside, long)))
+    ∙ one-row (f (get_or xs i d)) (f (get_or ys i d)) (valid_at v i) (valid_at w i) (nulls i inside) (λ t. ap f (same i inside t))
+    ∙ row-at f v xs i d e inside)
 
 fits-row : (t : DType) (x : Value) (b : Bool) → fits_type t (row_of x b) ≡ cond b (value_fits t x) (is_nullable t)
 fits-row t x true = refl

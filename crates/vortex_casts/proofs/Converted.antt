@@ -62,14 +62,15 @@ failed false o f = absurd (false≢true f)
 pub converted-masked : {X Y : Type 0} (number : X → ℤ) (other : Y → ℤ) (w : PType) (P : X → Option Y → Type 0) (d : Y) → Converts number other w P → (xs : List X) (bits : List Bool) (ys : List Y) → MapsLanes P d xs bits ys → SameWhereValid (Bits bits) (map number xs) (map other ys) × WithinWhereValid (Bits bits) w (map number xs)
 converted-masked number other w P d law xs bits ys m =
     let long : length m.answers ≡ length xs = long-answers P xs m.answers m.each in
-    let whole : AllZip P (take (length m.answers) xs) m.answers = rw (long, take-all xs) m.each in
-    (record {
-      long = omega (arith, ap length m.written, long, length-map m.answers (λ a. unwrap_or a d), length-map xs number, length-map ys other);
-      same = λ i l v. rw m.written (same-at number other w P d law xs m.answers m.each i (omega (arith, l, length-map xs number)) (passed bits m.answers i (m.passes i (omega (arith, l, length-map xs number))) v));
-    },
-    record {
-      within = λ i l v. sym (within-at number other w P law xs m.answers whole i (omega (arith, l, long, length-map xs number))) ∙ passed bits m.answers i (m.passes i (omega (arith, l, length-map xs number))) v;
-    })
+    let whole : AllZip P (take (length m.answers) xs) m.answers = rw (long, take-all xs) m.each in (
+      record {
+        long = omega (arith, ap length m.written, long, length-map m.answers (λ a. unwrap_or a d), length-map xs number, length-map ys other);
+        same = λ i l v. rw m.written (same-at number other w P d law xs m.answers m.each i (omega (arith, l, length-map xs number)) (passed bits m.answers i (m.passes i (omega (arith, l, length-map xs number))) v));
+      },
+      record {
+        within = λ i l v. sym (within-at number other w P law xs m.answers whole i (omega (arith, l, long, length-map xs number))) ∙ passed bits m.answers i (m.passes i (omega (arith, l, length-map xs number))) v;
+      },
+    )
 
 -- the end of a place's group lies behind it
 behind : (n i : ℕ) → i < n → i < group_end n i
@@ -112,14 +113,15 @@ given-at number other w Q law (x ∷ xs) (y ∷ ys) h zero l = law x y h.0
 given-at number other w Q law (x ∷ xs) (y ∷ ys) h (suc i) l = given-at number other w Q law xs ys h.1 i (omega arith)
 
 pub converted-all : {X Y : Type 0} (number : X → ℤ) (other : Y → ℤ) (w : PType) (Q : X → Y → Type 0) → Gives number other w Q → (xs : List X) (ys : List Y) → AllZip Q xs ys → SameWhereValid AllValid (map number xs) (map other ys) × WithinWhereValid AllValid w (map number xs)
-converted-all number other w Q law xs ys h =
-    (record {
-      long = omega (arith, long-answers Q xs ys h, length-map xs number, length-map ys other);
-      same = λ i l v. (given-at number other w Q law xs ys h i (omega (arith, l, length-map xs number))).0;
-    },
-    record {
-      within = λ i l v. (given-at number other w Q law xs ys h i (omega (arith, l, length-map xs number))).1;
-    })
+converted-all number other w Q law xs ys h = (
+  record {
+    long = omega (arith, long-answers Q xs ys h, length-map xs number, length-map ys other);
+    same = λ i l v. (given-at number other w Q law xs ys h i (omega (arith, l, length-map xs number))).0;
+  },
+  record {
+    within = λ i l v. (given-at number other w Q law xs ys h i (omega (arith, l, length-map xs number))).1;
+  },
+)
 
 -- one more place that is not refused
 pub within-more : (v : Validity) (w : PType) (xs : List ℤ) (i : ℕ) → ((j : ℕ) → j < i → valid_at v j ≡ true → in_width w (get_or xs j (pos 0)) ≡ true) → (valid_at v i && not (in_width w (get_or xs i (pos 0)))) ≡ false
@@ -130,6 +132,7 @@ within-more v w xs i h here j l t = by_place (cases_lt j i)
     passes true true e f = refl
     passes true false e f = absurd (true≢false e)
     passes false b e f = absurd (false≢true f)
+
     by_place : (j < i) ⊎ (i ≤ j) → in_width w (get_or xs j (pos 0)) ≡ true
     by_place (inl b) = h j b t
     by_place (inr b) =

@@ -80,13 +80,13 @@ filled-rows f fill n v xs e =
     ext_get_or None (rows_under w (map f ys)) (map (filled_row (Some (f fill))) rows)
     (length-rows-map f w ys (full-long n (length ys)) ∙ long ∙ sym (length-map rows (filled_row (Some (f fill))) ∙ length-rows-map f v xs e))
     (λ i l.
-      let inside : i < length xs = omega (arith, l, long, length-rows-map f w ys (full-long n (length ys))) in
-      sym (row-at f w ys i fill (full-long n (length ys)) (omega (arith, inside, long)))
-      ∙ ap (row_of (f (get_or ys i fill))) (full-valid n i)
-      ∙ ap (λ y. row_of (f y) true) (filled-at fill v xs i e inside)
-      ∙ filled-one f (get_or xs i fill) fill (valid_at v i)
-      ∙ ap (filled_row (Some (f fill))) (row-at f v xs i fill e inside)
-      ∙ sym (get_or-map (filled_row (Some (f fill))) rows i None None (omega (arith, inside, length-rows-map f v xs e))))
+    let inside : i < length xs = omega (arith, l, long, length-rows-map f w ys (full-long n (length ys))) in
+    sym (row-at f w ys i fill (full-long n (length ys)) (omega (arith, inside, long)))
+    ∙ ap (row_of (f (get_or ys i fill))) (full-valid n i)
+    ∙ ap (λ y. row_of (f y) true) (filled-at fill v xs i e inside)
+    ∙ filled-one f (get_or xs i fill) fill (valid_at v i)
+    ∙ ap (filled_row (Some (f fill))) (row-at f v xs i fill e inside)
+    ∙ sym (get_or-map (filled_row (Some (f fill))) rows i None None (omega (arith, inside, length-rows-map f v xs e))))
 
 -- the item that is given for a place
 pub filled-here : {X : Type 0} (fill : X) (v : Validity) (xs : List X) (i : ℕ) (x d : X) → IsTrue (is_as_long v (length xs)) → i < length xs → x ≡ cond (valid_at v i) (get_or xs i d) fill

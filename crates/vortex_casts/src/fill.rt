@@ -44,7 +44,10 @@ fn item_or<T: Copy>(item: T, valid: bool, fill: T) -> T
 fn widened<T: DecimalValue>(alloc: Global, items: &[T]) -> Result<Vec<i128>, AllocError>
     ensures { IfOk result (λ v. v.items ≡ map T.unscaled items.now) }
 {
-    items.iter().map(|item| item.unscaled_value()).collect(alloc)
+    items
+        .iter()
+        .map(|item| item.unscaled_value())
+        .collect(alloc)
 }
 
 // The unscaled numbers in the widest width, and the fill at the places that are not valid.

@@ -32,13 +32,7 @@ fn first_null(validity: &Validity, len: usize) -> Option<usize>
 {
     match validity {
         Validity::NonNullable | Validity::AllValid => None,
-        Validity::AllInvalid => {
-            if len == 0 {
-                None
-            } else {
-                Some(0)
-            }
-        }
+        Validity::AllInvalid => { if len == 0 { None } else { Some(0) } }
         Validity::Bits(bits) => first_unset(bits),
     }
 }

@@ -79,7 +79,13 @@ pub fn cast_primitive(
 {
     match dtype {
         DType::Primitive(width, nullability) => {
-            numbers_with(array.values(), array.validity(), alloc, *width, *nullability)
+            numbers_with(
+                array.values(),
+                array.validity(),
+                alloc,
+                *width,
+                *nullability,
+            )
         }
         _ => Err(CastError::Unsupported),
     }

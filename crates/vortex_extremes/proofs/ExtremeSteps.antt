@@ -40,7 +40,7 @@ least-new rows i place o h s e less =
       within = omega arith;
       some = s;
       bound = more (λ j. is_some (get_or rows j None) ≡ true → IsTrue (at_most (get_or rows i None) (get_or rows j None))) i
-        (λ j l t. at_most-trans (get_or rows i None) (get_or rows place None) (get_or rows j None) h.some t (below-at_most (get_or rows i None) (get_or rows place None) o e less) (h.bound j l t)) (λ t. at_most-itself (get_or rows i None));
+          (λ j l t. at_most-trans (get_or rows i None) (get_or rows place None) (get_or rows j None) h.some t (below-at_most (get_or rows i None) (get_or rows place None) o e less) (h.bound j l t)) (λ t. at_most-itself (get_or rows i None));
     }
 
 pub least-kept : (rows : List (Option Value)) (i place : ℕ) → LeastOf rows i place → (is_some (get_or rows i None) ≡ true → IsTrue (at_most (get_or rows place None) (get_or rows i None))) → LeastOf rows (i + 1) place
@@ -77,7 +77,7 @@ greatest-new rows i place o h e above =
       within = omega arith;
       some = s;
       bound = more (λ j. IsTrue (at_most (get_or rows j None) (get_or rows i None))) i
-        (λ j l. at_most-trans (get_or rows j None) (get_or rows place None) (get_or rows i None) h.some s (h.bound j l) (above-at_least (get_or rows i None) (get_or rows place None) o s h.some e above)) (at_most-itself (get_or rows i None));
+          (λ j l. at_most-trans (get_or rows j None) (get_or rows place None) (get_or rows i None) h.some s (h.bound j l) (above-at_least (get_or rows i None) (get_or rows place None) o s h.some e above)) (at_most-itself (get_or rows i None));
     }
 
 pub greatest-kept : (rows : List (Option Value)) (i place : ℕ) (o : Ordering) → GreatestOf rows i place → row_cmp (get_or rows i None) (get_or rows place None) ≡ Some o → is_gt o ≡ false → GreatestOf rows (i + 1) place

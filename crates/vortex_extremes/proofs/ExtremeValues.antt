@@ -80,8 +80,8 @@ least-value rows i v h e =
     record {
       among = held rows i v h.within e;
       bound = λ w k.
-        let here : get_or rows k.0 None ≡ Some w = get_or_default rows k.0 None (Some w) k.1 ∙ k.2 in
-        compares-at_most v w (rw (e, here) at (h.bound k.0 k.1 (ap is_some here)));
+          let here : get_or rows k.0 None ≡ Some w = get_or_default rows k.0 None (Some w) k.1 ∙ k.2 in
+          compares-at_most v w (rw (e, here) at (h.bound k.0 k.1 (ap is_some here)));
     }
 
 -- the value at the greatest place is the greatest
@@ -90,8 +90,8 @@ greatest-value rows i v h e =
     record {
       among = held rows i v h.within e;
       bound = λ w k.
-        let here : get_or rows k.0 None ≡ Some w = get_or_default rows k.0 None (Some w) k.1 ∙ k.2 in
-        compares-at_most w v (rw (e, here) at (h.bound k.0 k.1));
+          let here : get_or rows k.0 None ≡ Some w = get_or_default rows k.0 None (Some w) k.1 ∙ k.2 in
+          compares-at_most w v (rw (e, here) at (h.bound k.0 k.1));
     }
 
 -- no place is no value

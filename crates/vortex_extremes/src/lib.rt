@@ -9,10 +9,7 @@ mod order;
 mod places;
 
 pub use constant::{equal_rows_are, equal_rows_place};
-pub use lent::{
-    bools_are, bools_place, decimals_are, decimals_place, texts_are, texts_place,
-};
+pub use lent::{bools_are, bools_place, decimals_are, decimals_place, texts_are, texts_place};
 pub use numbers::{numbers_are, numbers_place};
 pub use order::RowOrder;
 pub use places::Extreme;
-

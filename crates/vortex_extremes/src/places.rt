@@ -43,13 +43,7 @@ fn lesser<R: OrderedRows>(rows: &R, least: Option<usize>, i: usize) -> Option<us
     ensures { LeastBelow (R.rows rows.now) (i + 1) result }
 {
     match least {
-        None => {
-            if rows.is_value(i) {
-                Some(i)
-            } else {
-                None
-            }
-        }
+        None => { if rows.is_value(i) { Some(i) } else { None } }
         Some(place) => {
             if rows.is_value(i) && rows.compare(i, place).is_lt() {
                 Some(i)
@@ -79,13 +73,7 @@ fn greater<R: OrderedRows>(rows: &R, greatest: Option<usize>, i: usize) -> Optio
     ensures { GreatestBelow (R.rows rows.now) (i + 1) result }
 {
     match greatest {
-        None => {
-            if rows.is_value(i) {
-                Some(i)
-            } else {
-                None
-            }
-        }
+        None => { if rows.is_value(i) { Some(i) } else { None } }
         Some(place) => {
             if rows.compare(i, place).is_gt() {
                 Some(i)

@@ -14,8 +14,8 @@ returns g c =
     let number : f c.in-Some.item ≡ c.args.fill = simp (to_z-of_z, c.ranges.fill) at c.in-Some.ensures.value in
     IfOk-weaker c.fill_items.result _ _
     (λ b e.
-      ap (map f) (rw c.as_slice.ensures at e)
-      ∙ map-filled f c.in-Some.item xs (valid_bits c.args.validity.now (length xs))
-      ∙ ap (λ d. filled_items d (map f xs) (valid_bits c.args.validity.now (length xs))) number
-      ∙ ap (λ n. filled_items c.args.fill (map f xs) (valid_bits c.args.validity.now n)) (sym (length-map xs f)))
+    ap (map f) (rw c.as_slice.ensures at e)
+    ∙ map-filled f c.in-Some.item xs (valid_bits c.args.validity.now (length xs))
+    ∙ ap (λ d. filled_items d (map f xs) (valid_bits c.args.validity.now (length xs))) number
+    ∙ ap (λ n. filled_items c.args.fill (map f xs) (valid_bits c.args.validity.now n)) (sym (length-map xs f)))
     c.fill_items.ensures

@@ -19,6 +19,6 @@ returns-else-is_value-2 g c =
     let place = c.in-Some.place in
     let h = rw c.in-Some.is at c.requires.least in
     elim c.else-is_value-2.branch [
-      else-is_value-2-via-then-is_value-2+else-is_lt w ↦ least-kept rows c.args.i place h (λ s. turned (get_or rows c.args.i None) (get_or rows place None) w.compare.result s h.some w.compare.ensures (sym w.is_lt.ensures ∙ w.if-is_lt.false))
-    | else-is_value-2-via-else-is_value-2 w ↦ least-kept rows c.args.i place h (λ s. absurd (false≢true (sym w.if-is_value-2.false ∙ c.is_value-in-Some.ensures ∙ s)))
+      | else-is_value-2-via-then-is_value-2+else-is_lt w ↦ least-kept rows c.args.i place h (λ s. turned (get_or rows c.args.i None) (get_or rows place None) w.compare.result s h.some w.compare.ensures (sym w.is_lt.ensures ∙ w.if-is_lt.false))
+      | else-is_value-2-via-else-is_value-2 w ↦ least-kept rows c.args.i place h (λ s. absurd (false≢true (sym w.if-is_value-2.false ∙ c.is_value-in-Some.ensures ∙ s)))
     ]

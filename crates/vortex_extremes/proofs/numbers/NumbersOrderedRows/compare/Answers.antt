@@ -43,5 +43,5 @@ returns g c =
     let j_in : c.args.j < length xs = omega (arith, c.requires.second, length-rows-map (λ n. values.Int n) s.validity.now xs long) in
     rw (c.standing_of.ensures, c.is_valid.ensures, c.is_valid-2.ensures, c.compare_items-order.ensures)
     (numbers-stand s.validity.now xs c.args.i c.args.j (f (get_or s.items.now c.args.i c.index-self-i.result)) (f (get_or s.items.now c.args.j c.index-self-j.result)) long i_in j_in
-      (sym (get_or-map f s.items.now c.args.i c.index-self-i.result (pos 0) (omega (arith, i_in, length-map s.items.now f))))
-      (sym (get_or-map f s.items.now c.args.j c.index-self-j.result (pos 0) (omega (arith, j_in, length-map s.items.now f)))))
+    (sym (get_or-map f s.items.now c.args.i c.index-self-i.result (pos 0) (omega (arith, i_in, length-map s.items.now f))))
+    (sym (get_or-map f s.items.now c.args.j c.index-self-j.result (pos 0) (omega (arith, j_in, length-map s.items.now f)))))

@@ -5,7 +5,7 @@ ghost use Rattle.vortex_types.specs.Seen.{value_seen};
 ghost use Rattle.vortex_types.specs.Typed.{same_apart_from_nullability};
 ghost use Rattle.vortex_columns.specs.ByteRows.{bytes_value, is_bytes_type, is_text_type};
 ghost use Rattle.vortex_casts.specs.Casts.{IsCast, RefusesCast, cast_column};
-ghost use Rattle.vortex_casts.specs.Filled.{filled_row};
+ghost use Rattle.vortex_casts.specs.Filled.{filled, filled_row};
 ghost use Rattle.vortex_casts.specs.Texts.{AllPresent, FirstNullRow, FitsBytes, bytes_of, is_text};
 
 use crate::errors::CastError;
@@ -85,6 +85,25 @@ fn first_null_row(array: &VarBinViewArray) -> Option<usize>
         }
     }
     None
+}
+
+/// The texts or bytes, and the fill in the null rows, of this type, which differs from theirs by its nulls alone. The
+/// fill of a type of texts is UTF-8.
+pub fn fill_texts(
+    array: &VarBinViewArray,
+    alloc: Global,
+    dtype: &DType,
+    fill: &[u8],
+) -> Result<VarBinViewArray, AllocError>
+    requires kind { IsTrue (same_apart_from_nullability array.now.dtype dtype.now) }
+    requires text { IsTrue (is_text_type dtype.now) → IsUtf8 fill.now }
+    ensures { IfOk result (λ a. a ≡ filled (record { dtype = dtype.now; value = Some (bytes_value dtype.now fill.now) }) array.now) }
+{
+    let _own = array.dtype();
+    match filled_texts(array, alloc, dtype, fill) {
+        Ok(filled) => Ok(filled),
+        Err(error) => Err(error),
+    }
 }
 
 // The same rows in a type that differs by its nulls alone, the fill where they are null.

@@ -16,11 +16,4 @@ pub use errors::CastError;
 pub use fill::{fill_bools, fill_decimals, fill_primitive};
 pub use plain::{cast_bools, cast_decimals};
 pub use primitive::cast_primitive;
-<<<<<<< HEAD
-pub use texts::cast_texts;
-
-#[cfg(test)]
-mod tests;
-=======
 pub use texts::{cast_texts, fill_texts};
->>>>>>> convert/main2

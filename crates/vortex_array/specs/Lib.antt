@@ -1,10 +1,5 @@
-pub mod Digits
-pub mod Row
-pub mod Order
-pub mod Matches
-pub mod Truth
-pub mod Cells
-pub mod Typed
-pub mod Parts
 pub mod ColumnOf
 pub mod Batch
+pub mod Head
+pub mod Single
+pub mod Index

@@ -1,156 +1,38 @@
-// Columns as they are kept in memory.
-ghost use Rattle.std.specs.Prelude.{◌≡◌, ◌==◌, IfOk, IsOkAnd, length};
-ghost use Rattle.vortex_array.specs.ColumnOf.{column_of, len_of, nullability_of, primitive_column, ptype_of};
+// Columns of any kind.
+ghost use Rattle.std.specs.Prelude.{◌≡◌, ◌<◌, ◌==◌, IsTrue, IfOk, None, is_some, length, map, option_map, slice_index_or};
+ghost use Rattle.vortex_buffer.specs.Mask.{mask_bits};
+ghost use Rattle.vortex_types.specs.Row.{fits_type};
+ghost use Rattle.vortex_types.specs.Seen.{value_seen};
+ghost use Rattle.vortex_array.specs.ColumnOf.{column_of, is_plain as is_plain_array, nullable_column};
 
-use crate::types::{DType, Nullability, PType};
 use std::alloc::{AllocError, Global};
-use std::marker::Model;
-use vortex_buffer::Buffer;
-
-/// An array and its validity have different lengths.
-#[derive(Clone, Copy, Debug, PartialEq, Eq)]
-pub struct LengthMismatch;
-
-/// Which rows are not null. All but the first make a nullable type.
-#[derive(Clone, Copy, Debug, PartialEq, Eq)]
-pub enum Validity {
-    NonNullable,
-    AllValid,
-    AllInvalid,
-}
-
-impl Validity {
-    /// Whether the type that it makes has nulls.
-    pub fn nullability(&self) -> Nullability
-        ensures { result ≡ nullability_of self.now }
-    {
-        match self {
-            Validity::NonNullable => Nullability::NonNullable,
-            Validity::AllValid => Nullability::Nullable,
-            Validity::AllInvalid => Nullability::Nullable,
-        }
-    }
-}
-
-/// Whole numbers of one width.
-#[derive(Drop)]
-pub enum PrimitiveBuffer {
-    U64(Buffer<u64>),
-}
-
-impl PrimitiveBuffer {
-    /// How many numbers there are.
-    pub fn len(&self) -> usize
-        ensures { result ≡ len_of self.now }
-    {
-        match self {
-            PrimitiveBuffer::U64(values) => values.len(),
-        }
-    }
-
-    /// Whether there is no number.
-    pub fn is_empty(&self) -> bool
-        ensures { result ≡ (len_of self.now == 0) }
-    {
-        self.len() == 0
-    }
-
-    /// The width of the numbers.
-    pub fn ptype(&self) -> PType
-        ensures { result ≡ ptype_of self.now }
-    {
-        match self {
-            PrimitiveBuffer::U64(_) => PType::U64,
-        }
-    }
-
-    /// Second numbers that are equal.
-    pub fn try_clone(&self, alloc: Global) -> Result<PrimitiveBuffer, AllocError>
-        ensures { IfOk result (λ b. b ≡ self.now) }
-    {
-        match self {
-            PrimitiveBuffer::U64(values) => Ok(PrimitiveBuffer::U64(values.try_clone(alloc)?)),
-        }
-    }
-}
-
-/// A column of whole numbers. The number at a place is the row there where that row is not null.
-#[derive(Drop)]
-pub struct PrimitiveArray {
-    values: PrimitiveBuffer,
-    validity: Validity,
-}
-
-impl Model for PrimitiveArray {
-    ghost use Rattle.vortex_array.specs.Parts.{PrimitiveParts};
-
-    ghost Value = { PrimitiveParts };
-
-    ghost view = { λ a. record { values = a.values; validity = a.validity } };
-}
-
-impl PrimitiveArray {
-    /// A column of these numbers. No validity has a length of its own yet, so none is refused.
-    pub fn try_new(
-        values: PrimitiveBuffer,
-        validity: Validity,
-    ) -> Result<PrimitiveArray, LengthMismatch>
-        ensures { IsOkAnd result (λ a. a ≡ record { values = values; validity = validity }) }
-    {
-        Ok(PrimitiveArray { values, validity })
-    }
-
-    /// The numbers.
-    pub fn values(&self) -> &PrimitiveBuffer
-        ensures { result.now ≡ self.now.values }
-    {
-        &self.values
-    }
-
-    /// Which rows are not null.
-    pub fn validity(&self) -> &Validity
-        ensures { result.now ≡ self.now.validity }
-    {
-        &self.validity
-    }
-
-    /// How many rows there are.
-    pub fn len(&self) -> usize
-        ensures { result ≡ length (primitive_column self.now).rows }
-    {
-        self.values.len()
-    }
-
-    /// Whether there is no row.
-    pub fn is_empty(&self) -> bool
-        ensures { result ≡ (length (primitive_column self.now).rows == 0) }
-    {
-        self.len() == 0
-    }
-
-    /// The type.
-    pub fn dtype(&self) -> DType
-        ensures { result ≡ (primitive_column self.now).dtype }
-    {
-        DType::Primitive(self.values.ptype(), self.validity.nullability())
-    }
-
-    /// A second column that is equal.
-    pub fn try_clone(&self, alloc: Global) -> Result<PrimitiveArray, AllocError>
-        ensures { IfOk result (λ a. a ≡ self.now) }
-    {
-        let values = self.values.try_clone(alloc)?;
-        Ok(PrimitiveArray {
-            values,
-            validity: self.validity,
-        })
-    }
-}
+use vortex_buffer::Mask;
+use vortex_columns::{BoolArray, ConstantArray, DecimalArray, PrimitiveArray, VarBinViewArray};
+use vortex_types::{DType, Scalar, Value, ValueRef};
 
 /// A column of any kind.
 #[derive(Drop)]
 pub enum Array {
+    /// Truth values.
+    Bool(BoolArray),
+    /// Whole numbers.
     Primitive(PrimitiveArray),
+    /// Decimals.
+    Decimal(DecimalArray),
+    /// Texts or bytes.
+    VarBinView(VarBinViewArray),
+    /// Equal rows.
+    Constant(ConstantArray),
+}
+
+// A lent value or null as one of its own.
+fn owned(alloc: Global, value: Option<ValueRef<'_>>) -> Result<Option<Value>, AllocError>
+    ensures { IfOk result (λ v. v ≡ option_map value_seen value.entry) }
+{
+    match value {
+        Some(value) => Ok(Some(value.to_value(alloc)?)),
+        None => Ok(None),
+    }
 }
 
 impl Array {
@@ -159,7 +41,11 @@ impl Array {
         ensures { result ≡ length (column_of self.now).rows }
     {
         match self {
+            Array::Bool(array) => array.len(),
             Array::Primitive(array) => array.len(),
+            Array::Decimal(array) => array.len(),
+            Array::VarBinView(array) => array.len(),
+            Array::Constant(array) => array.len(),
         }
     }
 
@@ -175,16 +61,86 @@ impl Array {
         ensures { result ≡ (column_of self.now).dtype }
     {
         match self {
+            Array::Bool(array) => array.dtype(),
             Array::Primitive(array) => array.dtype(),
+            Array::Decimal(array) => array.dtype(),
+            Array::VarBinView(array) => array.dtype(),
+            Array::Constant(array) => array.dtype(),
         }
     }
 
-    /// A second column of the same type and rows.
+    /// The row at a place, or none where it is null. It fits the type.
+    pub fn value_at(&self, i: usize) -> Option<ValueRef<'_>>
+        requires { i < length (column_of self.now).rows }
+        ensures value { option_map value_seen result ≡ slice_index_or (column_of self.now).rows i None }
+        ensures fits { IsTrue (fits_type (column_of self.now).dtype (option_map value_seen result)) }
+    {
+        match self {
+            Array::Bool(array) => array.value_at(i),
+            Array::Primitive(array) => array.value_at(i),
+            Array::Decimal(array) => array.value_at(i),
+            Array::VarBinView(array) => array.value_at(i),
+            Array::Constant(array) => array.value_at(i),
+        }
+    }
+
+    /// Whether the row at a place is not null.
+    pub fn is_valid(&self, i: usize) -> bool
+        requires { i < length (column_of self.now).rows }
+        ensures { result ≡ is_some (slice_index_or (column_of self.now).rows i None) }
+    {
+        self.value_at(i).is_some()
+    }
+
+    /// The row at a place, with the type.
+    pub fn scalar_at(&self, alloc: Global, i: usize) -> Result<Scalar, AllocError>
+        requires { i < length (column_of self.now).rows }
+        ensures { IfOk result (λ s. s ≡ record { dtype = (column_of self.now).dtype; value = slice_index_or (column_of self.now).rows i None }) }
+    {
+        let value = owned(alloc, self.value_at(i))?;
+        match Scalar::try_new(self.dtype(), value) {
+            Ok(scalar) => Ok(scalar),
+            Err(_) => unreachable!(),
+        }
+    }
+
+    /// For each row whether it is not null.
+    pub fn validity_mask(&self, alloc: Global) -> Result<Mask, AllocError>
+        ensures { IfOk result (λ mask. mask_bits mask ≡ map is_some (column_of self.now).rows) }
+    {
+        match self {
+            Array::Bool(array) => array.validity_mask(alloc),
+            Array::Primitive(array) => array.validity_mask(alloc),
+            Array::Decimal(array) => array.validity_mask(alloc),
+            Array::VarBinView(array) => array.validity_mask(alloc),
+            Array::Constant(array) => Ok(array.validity_mask()),
+        }
+    }
+
+    /// The same rows, of the type with nulls. A plain array stays one. It takes no memory.
+    pub fn into_nullable(self) -> Array
+        ensures column { column_of result ≡ nullable_column (column_of self) }
+        ensures plain { is_plain_array result ≡ is_plain_array self }
+    {
+        match self {
+            Array::Bool(array) => Array::Bool(array.into_nullable()),
+            Array::Primitive(array) => Array::Primitive(array.into_nullable()),
+            Array::Decimal(array) => Array::Decimal(array.into_nullable()),
+            Array::VarBinView(array) => Array::VarBinView(array.into_nullable()),
+            Array::Constant(array) => Array::Constant(array.into_nullable()),
+        }
+    }
+
+    /// A second column of the same type and rows, of the same kind.
     pub fn try_clone(&self, alloc: Global) -> Result<Array, AllocError>
         ensures { IfOk result (λ a. a ≡ self.now) }
     {
         match self {
+            Array::Bool(array) => Ok(Array::Bool(array.try_clone(alloc)?)),
             Array::Primitive(array) => Ok(Array::Primitive(array.try_clone(alloc)?)),
+            Array::Decimal(array) => Ok(Array::Decimal(array.try_clone(alloc)?)),
+            Array::VarBinView(array) => Ok(Array::VarBinView(array.try_clone(alloc)?)),
+            Array::Constant(array) => Ok(Array::Constant(array.try_clone(alloc)?)),
         }
     }
 }

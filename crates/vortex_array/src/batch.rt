@@ -2,8 +2,9 @@
 ghost use Rattle.std.specs.Prelude.{◌≡◌, ◌<◌, ◌↔◌, IsTrue, All, IfOk, OnErr, length, slice_get, Some};
 ghost use Rattle.vortex_array.specs.Batch.{HasRows};
 
-use crate::arrays::{Array, LengthMismatch};
+use crate::arrays::Array;
 use std::marker::Model;
+use vortex_columns::LengthMismatch;
 
 /// Some rows in columns of one length. Without columns the number of rows stands by itself.
 #[derive(Drop)]

@@ -1,23 +1,30 @@
-//! Types, values, filters and columns: what a table is made of, and what a filter says of a row.
+//! Columns in memory, and batches of them.
 //! Each call answers by rows: one definition, `column_of`, reads an array as its column.
 #![tactic(auto)]
 
 mod arrays;
 mod batch;
-mod column;
-mod filter;
-mod letters;
-mod names;
-mod octets;
-mod scalar;
-mod types;
+mod compare;
+mod convert;
+mod min_max;
+mod orders;
+mod select;
+mod single;
+mod take;
 
-pub use arrays::{Array, LengthMismatch, PrimitiveArray, PrimitiveBuffer, Validity};
+pub use arrays::Array;
 pub use batch::RecordBatch;
-pub use column::ColumnDesc;
-pub use filter::{BetweenOptions, Filter, Operand, StrictComparison};
-pub use names::{Bytes, Name, Text};
-pub use scalar::{Scalar, Value, WrongType};
-pub use types::{BadPrecision, DType, DecimalDType, Nullability, PType};
-/// How two values are compared, which is also what the lane kernels compare by.
-pub use vortex_compute::CompareOperator;
+pub use min_max::MinMax;
+pub use vortex_casts::CastError;
+pub use vortex_columns::{
+    BoolArray, ConstantArray, DecimalArray, DecimalBuffer, DecimalValue, LengthMismatch,
+    PrimitiveArray, PrimitiveBuffer, PushError, Validity, VarBinViewArray, VarBinViewBuilder,
+};
+pub use vortex_types::{
+    BadPrecision, BetweenOptions, Bytes, CodeType, ColumnDesc, CompareOperator, DType,
+    DecimalDType, Filter, FilterError, Name, NativeValue, Nullability, Operand, PType, Scalar,
+    StrictComparison, Text, Value, ValueRef, WrongType,
+};
+
+#[cfg(test)]
+mod tests;

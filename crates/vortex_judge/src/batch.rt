@@ -15,7 +15,7 @@ pub struct PlainColumn {
 }
 
 impl Model for PlainColumn {
-    ghost use Rattle.vortex_array.specs.Row.{Column};
+    ghost use Rattle.vortex_types.specs.Row.{Column};
 
     ghost Value = { Column };
 
@@ -53,7 +53,7 @@ pub struct PlainSplit {
 
 impl Model for PlainSplit {
     ghost use Rattle.std.specs.Prelude.{List};
-    ghost use Rattle.vortex_array.specs.Row.{Column};
+    ghost use Rattle.vortex_types.specs.Row.{Column};
 
     ghost Value = { List Column };
 

@@ -14,8 +14,6 @@ mod order;
 mod read;
 mod rows;
 mod same;
-#[cfg(test)]
-mod tests;
 mod truth;
 mod valid;
 

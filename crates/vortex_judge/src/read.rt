@@ -1,7 +1,6 @@
 // Arrays and batches, read as the columns and the rows that they stand for.
-ghost use Rattle.std.specs.Prelude.{◌≡◌, IfOk, None, Some, map, pos};
+ghost use Rattle.std.specs.Prelude.{◌≡◌, ◌<◌, IfOk, None, length, map, slice_index_or};
 ghost use Rattle.vortex_array.specs.ColumnOf.{column_of};
-ghost use Rattle.vortex_array.specs.declared.scalar.Value.TheVariants.{Int};
 ghost use Rattle.vortex_io.specs.Memory.{columns_of};
 ghost use Rattle.vortex_table.specs.ChunkOf.{chunk_column, content_of};
 ghost use Rattle.vortex_table.specs.Given.{given};
@@ -9,43 +8,29 @@ ghost use Rattle.vortex_table.specs.Given.{given};
 use crate::batch::{PlainBatch, PlainColumn, PlainContent, PlainSplit};
 use crate::rows::PlainRow;
 use std::alloc::{AllocError, Global};
-use vortex_array::{Array, PrimitiveArray, PrimitiveBuffer, RecordBatch, Validity, Value};
+use vortex_array::{Array, RecordBatch, Value};
 use vortex_table::{Batch, Chunk, WorkScope};
 
-// The numbers as rows.
-fn present_rows(alloc: Global, numbers: &[u64]) -> Result<PlainRow, AllocError>
-    ensures { IfOk result (λ r. r ≡ map (λ v. Some v) (map (λ n. Int n) (map (λ x. pos x) numbers.now))) }
+// The row at a place.
+fn read_row(alloc: Global, array: &Array, i: usize) -> Result<Option<Value>, AllocError>
+    requires { i < length (column_of array.now).rows }
+    ensures { IfOk result (λ row. row ≡ slice_index_or (column_of array.now).rows i None) }
 {
-    let mut rows = Vec::new(alloc);
-    for number in numbers {
-        rows.push(Some(Value::Int(*number as i128)))?;
+    match array.value_at(i) {
+        Some(value) => Ok(Some(value.to_value(alloc)?)),
+        None => Ok(None),
     }
-    Ok(PlainRow::new(rows))
-}
-
-// As many nulls as there are numbers.
-fn absent_rows(alloc: Global, numbers: &[u64]) -> Result<PlainRow, AllocError>
-    ensures { IfOk result (λ r. r ≡ map (λ _. None) (map (λ n. Int n) (map (λ x. pos x) numbers.now))) }
-{
-    let mut rows = Vec::new(alloc);
-    for _ in numbers {
-        rows.push(None)?;
-    }
-    Ok(PlainRow::new(rows))
 }
 
 /// The column that an array stands for.
 pub fn read_column(alloc: Global, array: &Array) -> Result<PlainColumn, AllocError>
     ensures { IfOk result (λ c. c ≡ column_of array.now) }
 {
-    let Array::Primitive(array) = array;
-    let PrimitiveBuffer::U64(numbers) = array.values();
-    let rows = match array.validity() {
-        Validity::NonNullable => present_rows(alloc, numbers.as_slice())?,
-        Validity::AllValid => present_rows(alloc, numbers.as_slice())?,
-        Validity::AllInvalid => absent_rows(alloc, numbers.as_slice())?,
-    };
-    Ok(PlainColumn::new(array.dtype(), rows))
+    let mut rows = Vec::new(alloc);
+    for i in 0..array.len() {
+        rows.push(read_row(alloc, array, i)?)?;
+    }
+    Ok(PlainColumn::new(array.dtype(), PlainRow::new(rows)))
 }
 
 // The column that a chunk stands for.

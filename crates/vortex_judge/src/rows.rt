@@ -13,7 +13,7 @@ pub struct PlainRow {
 }
 
 impl Model for PlainRow {
-    ghost use Rattle.vortex_array.specs.Cells.{Row};
+    ghost use Rattle.vortex_types.specs.Cells.{Row};
 
     ghost Value = { Row };
 
@@ -44,7 +44,7 @@ pub struct PlainRows {
 
 impl Model for PlainRows {
     ghost use Rattle.std.specs.Prelude.{List};
-    ghost use Rattle.vortex_array.specs.Cells.{Row};
+    ghost use Rattle.vortex_types.specs.Cells.{Row};
 
     ghost Value = { List Row };
 

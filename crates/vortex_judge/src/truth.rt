@@ -1,7 +1,7 @@
 // The truth of a filter for one row, in three values. `None` stands for null.
 ghost use Rattle.std.specs.Prelude.{◌≡◌, ◌≤◌, length, option_copied};
-ghost use Rattle.vortex_array.specs.Cells.{cell_of};
-ghost use Rattle.vortex_array.specs.Truth.{all_three, and3, is_like as likes, keeps as keeps_row, lies_between, operand_value as value_in, or3, truth, truth_value};
+ghost use Rattle.vortex_types.specs.Cells.{cell_of};
+ghost use Rattle.vortex_types.specs.Truth.{all_three, and3, is_like as likes, keeps as keeps_row, lies_between, operand_value as value_in, or3, truth, truth_value};
 
 use crate::like::matches;
 use crate::order::compares;
@@ -99,7 +99,7 @@ pub fn or(p: Option<bool>, q: Option<bool>) -> Option<bool>
 }
 
 /// The truth of a filter for a row.
-#[tactic(auto, using(vortex_array::specs::declared::filter::Filter::the_lemmas))]
+#[tactic(auto, using(vortex_types::specs::declared::filter::Filter::the_lemmas))]
 pub fn truth_of(columns: &[ColumnDesc], row: &[Option<Value>], filter: &Filter) -> Option<bool>
     ensures { result ≡ truth (cell_of columns.now row.now) filter.now }
 {

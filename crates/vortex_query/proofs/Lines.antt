@@ -5,27 +5,24 @@ use Rattle.std.specs.List.{range_with_len}
 use Rattle.std.proofs.lemmas.List.{append-nil, flat_map_more, map_more}
 use Rattle.std.proofs.lemmas.Grind.{flat_map-append}
 use Rattle.csv.specs.Writing.{default_writer, row_text}
-use Rattle.vortex_array.specs.declared.types.DType.{DType}
-use Rattle.vortex_array.specs.declared.scalar.Value.{Value}
-use Rattle.vortex_array.specs.declared.scalar.Value.TheVariants.{Int}
-use Rattle.vortex_array.specs.declared.column.ColumnDesc.{ColumnDesc}
+use Rattle.vortex_types.specs.declared.types.DType.{DType}
+use Rattle.vortex_types.specs.declared.scalar.Value.{Value}
+use Rattle.vortex_types.specs.declared.scalar.Value.TheVariants.{Int}
+use Rattle.vortex_types.specs.declared.column.ColumnDesc.{ColumnDesc}
 use Rattle.vortex_array.specs.declared.arrays.Array.{Array}
-use Rattle.vortex_array.specs.declared.arrays.Array.TheVariants.{Primitive}
-use Rattle.vortex_array.specs.declared.arrays.PrimitiveBuffer.{PrimitiveBuffer}
-use Rattle.vortex_array.specs.declared.arrays.PrimitiveBuffer.TheVariants.{U64}
-use Rattle.vortex_array.specs.declared.arrays.Validity.{Validity}
-use Rattle.vortex_array.specs.declared.arrays.Validity.TheVariants.{NonNullable, AllValid, AllInvalid}
 use Rattle.vortex_array.specs.Batch.{HasRows}
-use Rattle.vortex_array.specs.Cells.{Row}
-use Rattle.vortex_array.specs.ColumnOf.{column_of, primitive_column}
+use Rattle.vortex_types.specs.Cells.{Row}
+use Rattle.vortex_types.specs.Row.{Column}
+use Rattle.vortex_array.specs.ColumnOf.{column_of}
 use Rattle.vortex_table.specs.declared.scan.request.Projection.{Projection}
 use Rattle.vortex_table.specs.declared.scan.request.Projection.TheVariants as projection
 use Rattle.vortex_table.specs.Built.{u64_type}
 use Rattle.vortex_table.specs.Given.{given}
+use Rattle.vortex_table.specs.Scanning.{u64_column, u64_row}
 use Rattle.vortex_table.specs.Table.{row_at}
 use Rattle.vortex_table.specs.declared.scan.batch.Batch.{Batch}
 use Rattle.vortex_table.specs.Turn.{batch_rows}
-use Rattle.vortex_query.specs.Shown.{IsOneU64Column, number_row, numbers_in, numbers_under, rows_of}
+use Rattle.vortex_query.specs.Shown.{IsOneU64Column, number_row, one_value, rows_of}
 use Rattle.vortex_query.specs.Text.{header_cell, line_text, text}
 
 -- the line of a number under the one column
@@ -74,34 +71,32 @@ shifted f g e n zero = refl
 shifted f g e n (suc m) = ap (λ y. y ∷ map f (range_with_len (n + 1 + 1) m)) (ap f (add-one n) ∙ e n) ∙ ap (λ r. g n ∷ r) (shifted f g e (n + 1) m)
 
 -- one column, read row by row
-one_column : (t : DType) (rows : List (Option Value)) → map (row_at (record { dtype = t; rows = rows } ∷ [])) (range_with_len 0 (length rows)) ≡ map (λ v. v ∷ []) rows
+one_column : (t : DType) (rows : List (Option Value)) → map one_value rows ≡ map (row_at (record { dtype = t; rows = rows } ∷ [])) (range_with_len 0 (length rows))
 one_column t [] = refl
 one_column t (v ∷ rows) =
-    ap (λ r. (v ∷ []) ∷ r) (shifted (row_at (record { dtype = t; rows = v ∷ rows } ∷ [])) (row_at (record { dtype = t; rows = rows } ∷ [])) (λ i. refl) 0 (length rows) ∙ one_column t rows)
+    ap (λ r. one_value v ∷ r) (one_column t rows ∙ sym (shifted (row_at (record { dtype = t; rows = v ∷ rows } ∷ [])) (row_at (record { dtype = t; rows = rows } ∷ [])) (λ i. refl) 0 (length rows)))
 
 -- numbers as rows of one value
-numbers_as_rows : (numbers : List ℕ) → map number_row numbers ≡ map (λ v. v ∷ []) (map (λ v. Some v) (map (λ n. Int n) (map (λ x. pos x) numbers)))
+pub numbers_as_rows : (numbers : List ℕ) → map number_row numbers ≡ map one_value (map u64_row numbers)
 numbers_as_rows [] = refl
 numbers_as_rows (n ∷ numbers) = ap (λ r. number_row n ∷ r) (numbers_as_rows numbers)
 
--- numbers without nulls, read row by row
-parts_rows : (rows : ℕ) (values : PrimitiveBuffer) (validity : Validity) → (primitive_column (record { values = values; validity = validity })).dtype ≡ u64_type → length (primitive_column (record { values = values; validity = validity })).rows ≡ rows
-    → map number_row (numbers_in values) ≡ map (row_at (primitive_column (record { values = values; validity = validity }) ∷ [])) (range_with_len 0 rows)
-parts_rows rows (U64 numbers) NonNullable e long =
-    rw (← long) (numbers_as_rows numbers ∙ sym (one_column u64_type (map (λ v. Some v) (map (λ n. Int n) (map (λ x. pos x) numbers)))))
-parts_rows rows (U64 numbers) AllValid e long = absurd (cc e)
-parts_rows rows (U64 numbers) AllInvalid e long = absurd (cc e)
+-- the rows of a column of numbers
+pub column_rows : (c : Column) (numbers : List ℕ) → c ≡ u64_column numbers → map number_row numbers ≡ map one_value c.rows
+column_rows c numbers e = numbers_as_rows numbers ∙ ap (λ d. map one_value d.rows) (sym e)
 
--- an array of them
-array_rows : (rows : ℕ) (a : Array) → (column_of a).dtype ≡ u64_type → HasRows rows a → map number_row (numbers_under a) ≡ map (row_at (column_of a ∷ [])) (range_with_len 0 rows)
-array_rows rows (Primitive a) e long = parts_rows rows a.values a.validity e long
+-- the one array of a batch has the type
+pub one_kind : (arrays : List Array) (d : Array) → map (λ a. (column_of a).dtype) arrays ≡ u64_type ∷ [] → (column_of (get_or arrays 0 d)).dtype ≡ u64_type
+one_kind [] d e = absurd (cc e)
+one_kind (a ∷ []) d e = cc e
+one_kind (a ∷ b ∷ rest) d e = absurd (cc e)
 
--- the one array of a batch, read row by row
-pub batch_numbers : (rows : ℕ) (arrays : List Array) (d : Array) → map (λ a. (column_of a).dtype) arrays ≡ u64_type ∷ [] → All (HasRows rows) arrays
-    → map number_row (numbers_under (get_or arrays 0 d)) ≡ map (row_at (map column_of arrays)) (range_with_len 0 rows)
-batch_numbers rows [] d e long = absurd (cc e)
-batch_numbers rows (a ∷ []) d e long = array_rows rows a (cc e) (long 0 a (omega arith))
-batch_numbers rows (a ∷ b ∷ rest) d e long = absurd (cc e)
+-- read row by row, it gives the rows of the batch
+pub one_rows : (rows : ℕ) (arrays : List Array) (d : Array) → map (λ a. (column_of a).dtype) arrays ≡ u64_type ∷ [] → All (HasRows rows) arrays
+    → map one_value (column_of (get_or arrays 0 d)).rows ≡ map (row_at (map column_of arrays)) (range_with_len 0 rows)
+one_rows rows [] d e long = absurd (cc e)
+one_rows rows (a ∷ []) d e long = rw (← long 0 a (omega arith)) (one_column (column_of a).dtype (column_of a).rows)
+one_rows rows (a ∷ b ∷ rest) d e long = absurd (cc e)
 
 -- the rows of one more batch
 pub rows_more : (batches : List Batch) (i : ℕ) (b : Batch) → b ≡ get_or batches i b → i < length batches → rows_of (take (i + 1) batches) ≡ rows_of (take i batches) ++ batch_rows (given b)

@@ -2,13 +2,10 @@
 use Rattle.std.specs.Prelude.{◌≡◌, ℕ, pos, List, [], ◌∷◌, map, flat_map, false, Option, Some}
 use Rattle.csv.specs.Writing.{default_writer, fields_written, has_written, text_written, writer_setup}
 use Rattle.csv.specs.declared.writer.Writer.{Writer}
-use Rattle.vortex_array.specs.declared.arrays.Array.{Array}
-use Rattle.vortex_array.specs.declared.arrays.Array.TheVariants.{Primitive}
-use Rattle.vortex_array.specs.declared.arrays.PrimitiveBuffer.{PrimitiveBuffer}
-use Rattle.vortex_array.specs.declared.arrays.PrimitiveBuffer.TheVariants.{U64}
-use Rattle.vortex_array.specs.declared.scalar.Value.TheVariants.{Int}
-use Rattle.vortex_array.specs.declared.column.ColumnDesc.{ColumnDesc}
-use Rattle.vortex_array.specs.Cells.{Row}
+use Rattle.vortex_types.specs.declared.scalar.Value.{Value}
+use Rattle.vortex_types.specs.declared.scalar.Value.TheVariants.{Int}
+use Rattle.vortex_types.specs.declared.column.ColumnDesc.{ColumnDesc}
+use Rattle.vortex_types.specs.Cells.{Row}
 use Rattle.vortex_array.specs.ColumnOf.{column_of}
 use Rattle.vortex_table.specs.declared.scan.batch.Batch.{Batch}
 use Rattle.vortex_table.specs.Given.{given}
@@ -27,13 +24,9 @@ IsOneU64Column columns = map (λ column. column.dtype) columns ≡ u64_type ∷ 
 abbrev pub IsOneU64Batch : Batch → Type 0
 IsOneU64Batch b = map (λ array. (column_of array).dtype) b.array.columns ≡ u64_type ∷ []
 
--- the numbers of a buffer
-abbrev pub numbers_in : PrimitiveBuffer → List ℕ
-numbers_in (U64 numbers) = numbers
-
--- the numbers of an array, whatever of them is null
-abbrev pub numbers_under : Array → List ℕ
-numbers_under (Primitive a) = numbers_in a.values
+-- a row of one value
+abbrev pub one_value : Option Value → Row
+one_value v = v ∷ []
 
 -- a number as a row of one value
 abbrev pub number_row : ℕ → Row

@@ -2,9 +2,9 @@
 use Rattle.std.specs.Prelude.{ℕ, ◌*◌, pos, List, [], ◌∷◌, length, map, take, drop, Option, Some, None, option_map}
 use Rattle.std.specs.Int.{div_ceil}
 use Rattle.std.specs.List.{range_with_len}
-use Rattle.vortex_array.specs.declared.scalar.Value.TheVariants.{Int}
-use Rattle.vortex_array.specs.declared.column.ColumnDesc.{ColumnDesc}
-use Rattle.vortex_array.specs.Row.{Column}
+use Rattle.vortex_types.specs.declared.scalar.Value.TheVariants.{Int}
+use Rattle.vortex_types.specs.declared.column.ColumnDesc.{ColumnDesc}
+use Rattle.vortex_types.specs.Row.{Column}
 use Rattle.vortex_io.specs.declared.memory.Order.TheVariants.{First}
 use Rattle.vortex_table.specs.declared.describe.PartitionDesc.{PartitionDesc}
 use Rattle.vortex_table.specs.declared.describe.SplitDesc.{SplitDesc}

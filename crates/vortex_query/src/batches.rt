@@ -2,7 +2,7 @@
 ghost use Rattle.std.specs.Prelude.{◌≡◌, ◌++◌, ◌∷◌, [], All, IfOk, OnOk, List, ℕ, Some, map, flat_map};
 ghost use Rattle.csv.specs.Writing.{default_writer, row_text};
 ghost use Rattle.vortex_array.specs.ColumnOf.{column_of};
-ghost use Rattle.vortex_query.specs.Shown.{Holds, IsOneU64Batch, IsOneU64Column, number_row, numbers_in, numbers_under, rows_of};
+ghost use Rattle.vortex_query.specs.Shown.{Holds, IsOneU64Batch, IsOneU64Column, number_row, one_value, rows_of};
 ghost use Rattle.vortex_query.specs.Text.{header_cell as cell_text, line_text, text, type_text};
 ghost use Rattle.vortex_table.specs.Built.{u64_type};
 ghost use Rattle.vortex_table.specs.Given.{given};
@@ -11,9 +11,9 @@ ghost use Rattle.vortex_table.specs.declared.scan.request.Projection.TheVariants
 
 use csv::{Writer, WriterBuilder};
 use std::alloc::{AllocError, Global};
-use vortex_array::{Array, ColumnDesc, PrimitiveBuffer};
+use vortex_array::{Array, ColumnDesc};
 use vortex_buffer::Buffer;
-use vortex_table::{Batch, Projection};
+use vortex_table::{Batch, Projection, lent_numbers, read_numbers};
 
 // A writer that holds nothing yet.
 fn new_writer(alloc: Global) -> Writer<Vec<u8>>
@@ -54,30 +54,13 @@ fn header_cell(alloc: Global, column: &ColumnDesc) -> Result<Vec<u8>, AllocError
     Ok(cell)
 }
 
-// The numbers of a buffer.
-fn buffer_numbers(values: &PrimitiveBuffer) -> &[u64]
-    ensures { result.now ≡ numbers_in values.now }
-{
-    match values {
-        PrimitiveBuffer::U64(values) => values.as_slice(),
-    }
-}
-
-// The numbers of an array.
-fn array_numbers(array: &Array) -> &[u64]
-    ensures { result.now ≡ numbers_under array.now }
-{
-    match array {
-        Array::Primitive(array) => buffer_numbers(array.values()),
-    }
-}
-
-// The numbers of a batch of one column.
-fn batch_numbers(batch: &Batch) -> &[u64]
+// The array of a batch of one column.
+fn one_array(batch: &Batch) -> &Array
     requires { IsOneU64Batch batch.now }
-    ensures { map number_row result.now ≡ batch_rows (given batch.now) }
+    ensures kind { (column_of result.now).dtype ≡ u64_type }
+    ensures rows { map one_value (column_of result.now).rows ≡ batch_rows (given batch.now) }
 {
-    array_numbers(&batch.array.columns()[0])
+    &batch.array.columns()[0]
 }
 
 // Writes a row for each number under a column.
@@ -90,6 +73,34 @@ fn write_numbers(writer: &mut Writer<Vec<u8>>, numbers: &[u64]) -> Result<(), Al
         write_row(writer, &[digits.format(*number).as_bytes()])?;
     }
     Ok(())
+}
+
+// Writes a row for each row of an array, of which a copy is read first.
+fn write_copied(
+    alloc: Global,
+    writer: &mut Writer<Vec<u8>>,
+    array: &Array,
+) -> Result<(), AllocError>
+    requires { (column_of array.now).dtype ≡ u64_type }
+    ensures { OnOk result ((columns : List ColumnDesc) → IsOneU64Column columns → (written : List ℕ) → Holds (λ v. Some v.items) writer.old written
+        → Holds (λ v. Some v.items) writer.new (written ++ flat_map (line_text columns) (map one_value (column_of array.now).rows))) }
+{
+    let numbers = read_numbers(alloc, array)?;
+    write_numbers(writer, numbers.as_slice())?;
+    Ok(())
+}
+
+// Writes a row for each row of an array.
+fn write_array(alloc: Global, writer: &mut Writer<Vec<u8>>, array: &Array) -> Result<(), AllocError>
+    requires { (column_of array.now).dtype ≡ u64_type }
+    ensures { OnOk result ((columns : List ColumnDesc) → IsOneU64Column columns → (written : List ℕ) → Holds (λ v. Some v.items) writer.old written
+        → Holds (λ v. Some v.items) writer.new (written ++ flat_map (line_text columns) (map one_value (column_of array.now).rows))) }
+{
+    if let Some(numbers) = lent_numbers(array) {
+        write_numbers(writer, numbers)?;
+        return Ok(());
+    }
+    write_copied(alloc, writer, array)
 }
 
 /// The text of the batches' rows: a header, and a line for each row, as `csv` writes them with its default settings. Each batch
@@ -110,7 +121,7 @@ pub fn rows_text(
     let cell = header_cell(alloc, &columns[0])?;
     write_row(&mut writer, &[cell.as_slice()])?;
     for batch in batches {
-        write_numbers(&mut writer, batch_numbers(batch))?;
+        write_array(alloc, &mut writer, one_array(batch))?;
     }
     Ok(Buffer::from_vec(finish(writer)?))
 }

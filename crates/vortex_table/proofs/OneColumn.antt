@@ -1,28 +1,20 @@
 -- A table of one column of whole numbers, and requests without limits: the kept numbers of each split are the batches in turn.
-use Rattle.std.proofs.Common.{◌≡◌, ◌∙◌, sym, ap, subst, refl, ℕ, zero, suc, ◌+◌, ◌<◌, ◌&&◌, List, [], ◌∷◌, ◌++◌, Bool, true, false, cond, length, map, arith, pos, append-nil}
+use Rattle.std.proofs.Common.{◌≡◌, ◌∙◌, sym, ap, subst, refl, ℕ, zero, suc, ◌+◌, ◌<◌, ◌&&◌, List, [], ◌∷◌, ◌++◌, Bool, true, false, cond, length, map, arith, append-nil}
 use Rattle.std.specs.Prelude.{All, Option, Some, None, is_none, option_map, filter, nat_lt, slice_get, slice_index_or, unwrap_or}
 use Rattle.std.specs.List.{AllZip, cons_option, range_with_len}
 use Rattle.std.specs.Str.{bytes_eq}
 use Rattle.std.proofs.lemmas.List.{length-map}
 use Rattle.std.proofs.lemmas.Slice.Eq.{bytes_eq-Decides}
-use Rattle.vortex_array.specs.Cells.{Row, cell_of}
-use Rattle.vortex_array.specs.Truth.{keeps}
-use Rattle.vortex_array.specs.ColumnOf.{primitive_column}
-use Rattle.vortex_array.specs.declared.types.PType.TheVariants as width
-use Rattle.vortex_array.specs.declared.types.Nullability.TheVariants as nullability
-use Rattle.vortex_array.specs.declared.types.DType.{DType}
-use Rattle.vortex_array.specs.declared.types.DType.TheVariants as dtype
-use Rattle.vortex_array.specs.declared.scalar.Value.TheVariants.{Int}
-use Rattle.vortex_array.specs.declared.arrays.Validity.{Validity}
-use Rattle.vortex_array.specs.declared.arrays.Validity.TheVariants.{NonNullable, AllValid, AllInvalid}
-use Rattle.vortex_array.specs.declared.arrays.PrimitiveBuffer.{PrimitiveBuffer}
-use Rattle.vortex_array.specs.declared.arrays.PrimitiveBuffer.TheVariants.{U64}
-use Rattle.vortex_array.specs.declared.arrays.Array.TheVariants.{Primitive}
-use Rattle.vortex_array.specs.declared.column.ColumnDesc.{ColumnDesc}
+use Rattle.vortex_types.specs.Cells.{Row, cell_of}
+use Rattle.vortex_types.specs.Truth.{keeps}
+use Rattle.vortex_types.specs.declared.types.PType.TheVariants as width
+use Rattle.vortex_types.specs.declared.types.Nullability.TheVariants as nullability
+use Rattle.vortex_types.specs.declared.types.DType.{DType}
+use Rattle.vortex_types.specs.declared.types.DType.TheVariants as dtype
+use Rattle.vortex_types.specs.declared.column.ColumnDesc.{ColumnDesc}
 use Rattle.vortex_io.specs.declared.request.IoTarget.TheVariants as target
 use Rattle.vortex_table.specs.declared.built.Comparison.{Comparison}
 use Rattle.vortex_table.specs.declared.chunk.Chunk.{Chunk}
-use Rattle.vortex_table.specs.declared.chunk.Chunk.TheVariants.{Plain}
 use Rattle.vortex_table.specs.declared.describe.ChunkDesc.{ChunkDesc}
 use Rattle.vortex_table.specs.declared.describe.SplitDesc.{SplitDesc}
 use Rattle.vortex_table.specs.declared.describe.PartitionDesc.{PartitionDesc}
@@ -39,9 +31,10 @@ use Rattle.vortex_table.specs.ChunkOf.{chunk_column, content_of}
 use Rattle.vortex_table.specs.Described.{FitsColumns, IsChunkOf}
 use Rattle.vortex_table.specs.Kept.{passes}
 use Rattle.vortex_table.specs.Members.{in_selection, in_some_range}
-use Rattle.vortex_table.specs.Scanning.{HasNumbers, batch_if, buffer_numbers, chunk_numbers, column_at, kept_batches, scope_at, split_numbers, u64_column, u64_row}
+use Rattle.vortex_table.specs.Scanning.{HasNumbers, batch_if, chunk_numbers, column_at, kept_batches, scope_at, split_numbers, u64_column, u64_row}
 use Rattle.vortex_table.specs.Table.{FitsChunk, FitsPartition, decoded, row_at, scopes_from, split_rows, split_scopes}
 use Rattle.vortex_table.specs.Turn.{given_of, in_turn}
+use Rattle.vortex_table.proofs.ReadBack.{column_fits}
 use Rattle.vortex_table.proofs.Rising.{Each}
 use Rattle.vortex_table.proofs.Whole.{all_each}
 use Rattle.vortex_table.proofs.Tiling.{chosen_parts, placed_from, placed_parts}
@@ -112,22 +105,6 @@ all_rows_selected request e partition row =
 
 -- ---- chunks of numbers
 
--- numbers as rows, however they came to be rows
-number_rows : (numbers : List ℕ) → map (λ v. Some v) (map (λ n. Int n) (map (λ x. pos x) numbers)) ≡ map u64_row numbers
-number_rows [] = refl
-number_rows (n ∷ numbers) = ap (λ rows. u64_row n ∷ rows) (number_rows numbers)
-
--- numbers under a validity whose type has no nulls
-parts_u64 : (values : PrimitiveBuffer) (validity : Validity) → (primitive_column (record { values = values; validity = validity })).dtype ≡ u64_type
-    → primitive_column (record { values = values; validity = validity }) ≡ u64_column (buffer_numbers values)
-parts_u64 (U64 b) NonNullable e = ap (λ rows. record { dtype = u64_type; rows = rows }) (number_rows b)
-parts_u64 (U64 b) AllValid e = cc
-parts_u64 (U64 b) AllInvalid e = cc
-
--- a chunk of that type is the column of its numbers
-pub chunk_u64 : (c : Chunk) → (chunk_column c).dtype ≡ u64_type → chunk_column c ≡ u64_column (chunk_numbers c)
-chunk_u64 (Plain (Primitive a)) e = parts_u64 a.values a.validity e
-
 -- the type that the test finds
 type_u64 : (t : DType) → is_u64 t ≡ true → t ≡ u64_type
 type_u64 (dtype.Primitive width.U64 nullability.NonNullable) e = refl
@@ -142,7 +119,7 @@ record IsOfNumbers (split : SplitDesc) (chunks : List Chunk) : Type 0 where
 -- a chunk that fits a description of that type and of the split's rows
 one_chunk : (column : ColumnDesc) (split : SplitDesc) (described : ChunkDesc) (chunk : Chunk) → is_u64 column.dtype ≡ true → IsChunkOf split column described → FitsChunk described (chunk_column chunk) → IsOfNumbers split (chunk ∷ [])
 one_chunk column split described chunk one made fits =
-    let same : chunk_column chunk ≡ u64_column (chunk_numbers chunk) = chunk_u64 chunk (fits.dtype ∙ made.dtype ∙ type_u64 column.dtype one) in
+    let same : chunk_column chunk ≡ u64_column (chunk_numbers chunk) = column_fits (chunk_column chunk) (fits.dtype ∙ made.dtype ∙ type_u64 column.dtype one) fits.fits in
     let long : length (chunk_numbers chunk) ≡ split.rows = sym (length-map (chunk_numbers chunk) u64_row) ∙ sym (ap (λ c. length c.rows) same) ∙ fits.rows ∙ made.rows in
     record { first = ap (λ c. Some c) same; only = ap (λ c. c ∷ []) same; counted = long }
 

@@ -1,10 +1,9 @@
 -- What the parts of a scan of one column compute.
-use Rattle.std.specs.Prelude.{◌≡◌, ℕ, ◌+◌, ◌<◌, pos, nat_lt, List, [], ◌∷◌, ◌++◌, drop, length, map, filter, Option, Some, None, option_map, slice_index_or, if◌then◌else◌, All}
-use Rattle.vortex_array.specs.Row.{Column}
-use Rattle.vortex_array.specs.declared.scalar.Value.{Value}
-use Rattle.vortex_array.specs.declared.scalar.Value.TheVariants.{Int}
-use Rattle.vortex_array.specs.declared.arrays.PrimitiveBuffer.{PrimitiveBuffer}
-use Rattle.vortex_array.specs.declared.arrays.PrimitiveBuffer.TheVariants.{U64}
+use Rattle.std.specs.Prelude.{◌≡◌, Bool, true, false, ℕ, ◌+◌, ◌<◌, pos, nat_lt, List, [], ◌∷◌, ◌++◌, drop, length, map, filter, Option, Some, None, option_map, slice_index_or, if◌then◌else◌, All}
+use Rattle.vortex_types.specs.Row.{Column}
+use Rattle.vortex_types.specs.declared.scalar.Value.{Value}
+use Rattle.vortex_types.specs.declared.scalar.Value.TheVariants.{Int}
+use Rattle.vortex_array.specs.declared.arrays.Array.{Array}
 use Rattle.vortex_array.specs.declared.arrays.Array.TheVariants.{Primitive}
 use Rattle.vortex_io.specs.Memory.{MemoryState}
 use Rattle.vortex_io.specs.Source.{chunk_at}
@@ -15,7 +14,6 @@ use Rattle.vortex_io.specs.declared.request.JournalEntry.TheVariants.{Waited}
 use Rattle.vortex_io.specs.declared.request.IoTarget.TheVariants as target
 use Rattle.vortex_table.specs.declared.built.Comparison.{Comparison}
 use Rattle.vortex_table.specs.declared.chunk.Chunk.{Chunk}
-use Rattle.vortex_table.specs.declared.chunk.Chunk.TheVariants.{Plain}
 use Rattle.vortex_table.specs.declared.describe.PartitionDesc.{PartitionDesc}
 use Rattle.vortex_table.specs.declared.describe.SplitDesc.{SplitDesc}
 use Rattle.vortex_table.specs.declared.scan.batch.Batch.{Batch}
@@ -33,13 +31,23 @@ u64_row n = Some (Int (pos n))
 abbrev pub u64_column : List ℕ → Column
 u64_column numbers = record { dtype = u64_type; rows = map u64_row numbers }
 
--- the numbers of a buffer
-abbrev pub buffer_numbers : PrimitiveBuffer → List ℕ
-buffer_numbers (U64 b) = b
+-- the number of a row, 0 where the row is null or no natural number
+abbrev pub row_number : Option Value → ℕ
+row_number (Some (Int (pos n))) = n
+row_number _ = 0
 
--- the numbers of a chunk
+-- the numbers of a column's rows
+abbrev pub column_numbers : Column → List ℕ
+column_numbers c = map row_number c.rows
+
+-- the array keeps a number for each row
+abbrev pub keeps_numbers : Array → Bool
+keeps_numbers (Primitive a) = true
+keeps_numbers _ = false
+
+-- the numbers of a chunk's rows
 abbrev pub chunk_numbers : Chunk → List ℕ
-chunk_numbers (Plain (Primitive a)) = buffer_numbers a.values
+chunk_numbers chunk = column_numbers (chunk_column chunk)
 
 -- the numbers of the first chunk of a split, none where there is no chunk
 abbrev pub split_numbers : List Chunk → List ℕ

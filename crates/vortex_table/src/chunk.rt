@@ -41,7 +41,7 @@ impl Chunk {
 }
 
 impl Payload for Chunk {
-    ghost use Rattle.vortex_array.specs.Row.{Column};
+    ghost use Rattle.vortex_types.specs.Row.{Column};
     ghost use Rattle.vortex_table.specs.ChunkOf.{chunk_column};
 
     ghost Meaning = { Column };

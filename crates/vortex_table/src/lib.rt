@@ -7,6 +7,7 @@ mod chunk;
 mod describe;
 mod errors;
 mod laws;
+mod numbers;
 mod partition;
 pub mod scan;
 mod table;
@@ -22,6 +23,7 @@ pub use laws::{
     each_question_has_an_answer, no_row_missing, ordered_answer_is_first_rows,
     ordered_answers_agree, selections_partition, splits_are_apart, without_limit,
 };
+pub use numbers::{lent_numbers, read_numbers};
 pub use scan::{
     Batch, Names, NotIncreasing, Place, Projection, RootId, ScanRequest, Selection,
     StrictSortedBuffer, WorkScope,

@@ -3,16 +3,19 @@ ghost use Rattle.std.specs.Prelude.{◌≡◌, ◌<◌, ◌≤◌, ◌+◌, ◌^
 ghost use Rattle.vortex_array.specs.ColumnOf.{column_of};
 ghost use Rattle.std.specs.List.{AllZip};
 ghost use Rattle.vortex_io.specs.Memory.{MemoryState};
+ghost use Rattle.vortex_table.specs.Built.{u64_type};
+ghost use Rattle.vortex_table.specs.ChunkOf.{chunk_column};
 ghost use Rattle.vortex_table.specs.Described.{total_rows};
 ghost use Rattle.vortex_table.specs.Given.{given};
 ghost use Rattle.vortex_table.specs.State.{Stands};
 ghost use Rattle.vortex_table.specs.Kept.{passes};
 ghost use Rattle.vortex_table.specs.Fetching.{asked_for, fetched, journals_after, split_request, split_requests, waits_for};
-ghost use Rattle.vortex_table.specs.Scanning.{AreOfFirstRoot, FirstHolds, HasNumbers, IsExtended, after_split, batch_if, chunk_numbers, kept_batches, oldest_column, scope_at, table_batches, u64_column, waited};
+ghost use Rattle.vortex_table.specs.Scanning.{AreOfFirstRoot, FirstHolds, HasNumbers, IsExtended, after_split, batch_if, column_numbers, kept_batches, oldest_column, scope_at, table_batches, u64_column, waited};
 
 use crate::built::Comparison;
 use crate::chunk::Chunk;
 use crate::describe::{PartitionDesc, SplitDesc};
+use crate::numbers::{lent_numbers, read_numbers};
 use crate::scan::{Batch, Place, RootId, WorkScope};
 use std::alloc::{AllocError, Global};
 use vortex_array::{
@@ -58,14 +61,38 @@ fn kept_of(alloc: Global, keep: &Option<Comparison>, values: &[u64]) -> Result<V
     }
 }
 
-// The numbers of a chunk.
-fn numbers_of(chunk: &Chunk) -> &[u64]
-    ensures { result.now ≡ chunk_numbers chunk.now }
+// The numbers of a column that are kept, in order, where its rows are read one by one.
+fn kept_rows(
+    alloc: Global,
+    keep: &Option<Comparison>,
+    array: &Array,
+) -> Result<Vec<u64>, AllocError>
+    requires { (column_of array.now).dtype ≡ u64_type }
+    ensures { IfOk result (λ v. v.items ≡ filter (passes keep.now) (column_numbers (column_of array.now))) }
+{
+    let numbers = read_numbers(alloc, array)?;
+    let kept = kept_of(alloc, keep, numbers.as_slice())?;
+    Ok(kept)
+}
+
+// The numbers of a column that are kept, in order.
+fn kept_in(alloc: Global, keep: &Option<Comparison>, array: &Array) -> Result<Vec<u64>, AllocError>
+    requires { (column_of array.now).dtype ≡ u64_type }
+    ensures { IfOk result (λ v. v.items ≡ filter (passes keep.now) (column_numbers (column_of array.now))) }
+{
+    if let Some(numbers) = lent_numbers(array) {
+        let kept = kept_of(alloc, keep, numbers)?;
+        return Ok(kept);
+    }
+    kept_rows(alloc, keep, array)
+}
+
+// The array of a chunk.
+fn array_of(chunk: &Chunk) -> &Array
+    ensures { column_of result.now ≡ chunk_column chunk.now }
 {
     match chunk {
-        Chunk::Plain(Array::Primitive(array)) => match array.values() {
-            PrimitiveBuffer::U64(values) => values.as_slice(),
-        },
+        Chunk::Plain(array) => array,
     }
 }
 
@@ -86,7 +113,7 @@ fn next_kept(
     };
     match completion.result {
         IoResult::Chunk(chunk) => {
-            let kept = kept_of(alloc, keep, numbers_of(&chunk))?;
+            let kept = kept_in(alloc, keep, array_of(&chunk))?;
             Ok(kept)
         }
         IoResult::Size(_) => unreachable!(),

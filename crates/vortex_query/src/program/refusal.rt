@@ -3,8 +3,6 @@ ghost use Rattle.std.specs.Prelude.{◌≡◌};
 ghost use Rattle.vortex_query.specs.Query.{line_of};
 ghost use Rattle.vortex_query.specs.Refused.{status_of};
 
-use std::alloc::AllocError;
-
 /// Why a scan did not end well.
 #[derive(Clone, Copy, Debug, PartialEq, Eq)]
 pub enum Refusal {
@@ -18,16 +16,6 @@ pub enum Refusal {
     ReadFailed,
     /// The output failed.
     WriteFailed,
-}
-
-impl From<AllocError> for Refusal {
-    ghost use Rattle.vortex_query.specs.declared.program.refusal.Refusal.TheVariants.{OutOfMemory};
-
-    ghost from_gives = { λ _ e. e ≡ OutOfMemory };
-
-    fn from(_failed: AllocError) -> Refusal {
-        Refusal::OutOfMemory
-    }
 }
 
 impl Refusal {

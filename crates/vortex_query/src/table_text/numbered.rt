@@ -8,7 +8,7 @@ ghost use Rattle.vortex_query.specs.declared.table_text.TableTextError.TheVarian
 use super::TableTextError;
 use super::fields::{name_of, number_of};
 use super::rows::{next_row, only_field, reader_of};
-use csv::{ByteRecord, ReaderBuilder};
+use csv::ByteRecord;
 use std::alloc::Global;
 use vortex_array::Name;
 

@@ -20,7 +20,7 @@ loop-batch-preserved c =
     let columns = c.args.columns.now in
     let i = c.loop-batch.batch-index in
     let before = rows_of (take i c.args.batches.now) in
-    let h = rw c.batch_numbers.ensures at (c.in_ok-write_numbers.ensures columns c.requires.columns (text columns c.args.projection.now before) c.loop-batch.invariant) in
+    let h = rw c.one_array.ensures.rows at (c.in_ok-write_array.ensures columns c.requires.columns (text columns c.args.projection.now before) c.loop-batch.invariant) in
     rw (rows_more c.args.batches.now i c.batch-item.result c.batch-item.is c.loop-batch-test.true, more_rows columns c.args.projection.now c.index-columns-0.result before (batch_rows (given c.batch-item.result)) c.requires.columns c.requires.projection) h
 
 pub returns : goal.returns

@@ -1,0 +1,148 @@
+// Times the row operations of `vortex_rows` beside stock Rust loops of the same job. Built and run by `bench/rows`.
+use std::hint::black_box;
+use std::time::Instant;
+
+extern "C" {
+    fn bench_filter(values: *const u64, len: usize, words: *const u64, words_len: usize, last: *mut u64) -> usize;
+    fn bench_take(values: *const u64, len: usize, places: *const usize, places_len: usize, last: *mut u64) -> usize;
+    fn bench_slice(values: *const u64, len: usize, start: usize, end: usize, last: *mut u64) -> usize;
+}
+
+// The memory that the library asks for comes from where the stock loops' comes from, the C library.
+extern "C" {
+    fn malloc(size: usize) -> *mut u8;
+    fn realloc(block: *mut u8, size: usize) -> *mut u8;
+    fn free(block: *mut u8);
+}
+
+#[repr(C)]
+pub struct Tried {
+    ok: bool,
+    block: *mut u8,
+}
+
+#[no_mangle]
+pub unsafe extern "C" fn rattle_alloc(size: usize, _align: usize) -> Tried {
+    let block = malloc(size);
+    Tried { ok: !block.is_null(), block }
+}
+
+#[no_mangle]
+pub unsafe extern "C" fn rattle_realloc(block: *mut u8, _kept: usize, size: usize, _align: usize) -> Tried {
+    let block = realloc(block, size);
+    Tried { ok: !block.is_null(), block }
+}
+
+#[no_mangle]
+pub unsafe extern "C" fn rattle_dealloc(block: *mut u8) {
+    free(block);
+}
+
+const ROWS: usize = 10_000_000;
+const RUNS: usize = 11;
+
+// A loop over the rows that asks each bit.
+#[inline(never)]
+fn stock_filter(values: &[u64], words: &[u64]) -> Vec<u64> {
+    let count = words.iter().map(|word| word.count_ones() as usize).sum();
+    let mut kept = Vec::with_capacity(count);
+    for (i, value) in values.iter().enumerate() {
+        if words[i / 64] >> (i % 64) & 1 == 1 {
+            kept.push(*value);
+        }
+    }
+    kept
+}
+
+// A loop over the set bits of each word.
+#[inline(never)]
+fn stock_filter_by_words(values: &[u64], words: &[u64]) -> Vec<u64> {
+    let count = words.iter().map(|word| word.count_ones() as usize).sum();
+    let mut kept = Vec::with_capacity(count);
+    for (k, word) in words.iter().enumerate() {
+        let mut rest = *word;
+        while rest != 0 {
+            kept.push(values[64 * k + rest.trailing_zeros() as usize]);
+            rest &= rest - 1;
+        }
+    }
+    kept
+}
+
+#[inline(never)]
+fn stock_take(values: &[u64], places: &[usize]) -> Vec<u64> {
+    places.iter().map(|place| values[*place]).collect()
+}
+
+#[inline(never)]
+fn stock_slice(values: &[u64], start: usize, end: usize) -> Vec<u64> {
+    values[start..end].to_vec()
+}
+
+// The least time of each of these jobs, in milliseconds. They take turns.
+fn least(jobs: &mut [&mut dyn FnMut() -> usize]) -> Vec<f64> {
+    let mut times = vec![f64::INFINITY; jobs.len()];
+    for _ in 0..RUNS {
+        for (time, job) in times.iter_mut().zip(jobs.iter_mut()) {
+            let start = Instant::now();
+            black_box(job());
+            *time = time.min(start.elapsed().as_secs_f64() * 1000.0);
+        }
+    }
+    times
+}
+
+fn row(name: &str, ours: f64, stock: &[f64]) {
+    print!("{name:<28} {ours:8.2}");
+    for time in stock {
+        print!(" {time:8.2} {:6.2}", ours / time);
+    }
+    println!();
+}
+
+fn main() {
+    let mut seed = 0x9e3779b97f4a7c15u64;
+    let mut random = move || {
+        seed ^= seed << 13;
+        seed ^= seed >> 7;
+        seed ^= seed << 17;
+        seed
+    };
+    let values: Vec<u64> = (0..ROWS).map(|_| random()).collect();
+    let mut last = 0u64;
+    println!("{:<28} {:>8} {:>8} {:>6} {:>8} {:>6}", "job", "ours", "stock", "ratio", "by words", "ratio");
+    for percent in [1, 50, 99] {
+        let mut words = vec![0u64; ROWS.div_ceil(64)];
+        for i in 0..ROWS {
+            if random() % 100 < percent {
+                words[i / 64] |= 1 << (i % 64);
+            }
+        }
+        let expected = stock_filter(&values, &words);
+        let given = unsafe { bench_filter(values.as_ptr(), ROWS, words.as_ptr(), words.len(), &mut last) };
+        assert_eq!((given, Some(&last)), (expected.len(), expected.last()));
+        assert_eq!(expected, stock_filter_by_words(&values, &words));
+        let times = least(&mut [
+            &mut || unsafe { bench_filter(values.as_ptr(), ROWS, words.as_ptr(), words.len(), &mut last) },
+            &mut || black_box(stock_filter(black_box(&values), black_box(&words))).len(),
+            &mut || black_box(stock_filter_by_words(black_box(&values), black_box(&words))).len(),
+        ]);
+        row(&format!("filter, {percent} % set"), times[0], &times[1..]);
+    }
+    let places: Vec<usize> = (0..ROWS).map(|_| random() as usize % ROWS).collect();
+    let near: Vec<usize> = (0..ROWS).map(|i| (i + random() as usize % 100).min(ROWS - 1)).collect();
+    for (name, places) in [("take, places anywhere", &places), ("take, places close by", &near)] {
+        let given = unsafe { bench_take(values.as_ptr(), ROWS, places.as_ptr(), ROWS, &mut last) };
+        assert_eq!((given, last), (ROWS, values[places[ROWS - 1]]));
+        let times = least(&mut [
+            &mut || unsafe { bench_take(values.as_ptr(), ROWS, places.as_ptr(), ROWS, &mut last) },
+            &mut || black_box(stock_take(black_box(&values), black_box(places))).len(),
+        ]);
+        row(name, times[0], &times[1..]);
+    }
+    let times = least(&mut [
+        &mut || unsafe { bench_slice(values.as_ptr(), ROWS, 1, ROWS - 1, &mut last) },
+        &mut || black_box(stock_slice(black_box(&values), 1, ROWS - 1)).len(),
+    ]);
+    row("slice, all but two", times[0], &times[1..]);
+}

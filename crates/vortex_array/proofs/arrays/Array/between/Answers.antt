@@ -1,0 +1,30 @@
+use Rattle.std.proofs.Common.{◌∙◌, ◌≡◌, sym, ap, length}
+use Rattle.vortex_types.specs.Row.{Column}
+use Rattle.vortex_types.specs.Truth.{lower_operator, upper_operator}
+use Rattle.vortex_columns.specs.Truths.{compared, joined_strictly}
+use Rattle.vortex_array.specs.ColumnOf.{bool_column, column_of}
+use Rattle.vortex_array.proofs.Compared.{between-joined, length-compared}
+use Rattle.vortex_array.proofs.arrays.Array.between.Goals as goal
+
+pub both_true-requires : goal.both_true-requires
+both_true-requires c = record {
+  same_length =
+      ap (λ (d : Column). length d.rows) c.in_ok-above.ensures
+      ∙ length-compared c.lower_operator.result (column_of c.args.self.now) (column_of c.args.lower.now) c.requires.lower_length
+      ∙ sym
+      (ap (λ (d : Column). length d.rows) c.in_ok-below.ensures
+      ∙ length-compared c.upper_operator.result (column_of c.args.self.now) (column_of c.args.upper.now) c.requires.upper_length);
+}
+
+pub returns : goal.returns
+returns c =
+    let x : Column = column_of c.args.self.now in
+    let lower : Column = column_of c.args.lower.now in
+    let upper : Column = column_of c.args.upper.now in
+    let options = c.args.options.now in
+    let above : bool_column c.in_ok-above.above ≡ compared (lower_operator options.lower_strict) x lower = c.in_ok-above.ensures ∙ ap (λ o. compared o x lower) c.lower_operator.ensures in
+    let below : bool_column c.in_ok-below.below ≡ compared (upper_operator options.upper_strict) x upper = c.in_ok-below.ensures ∙ ap (λ o. compared o x upper) c.upper_operator.ensures in
+    c.in_ok-between.ensures
+    ∙ ap (λ d. joined_strictly d (bool_column c.in_ok-below.below)) above
+    ∙ ap (joined_strictly (compared (lower_operator options.lower_strict) x lower)) below
+    ∙ between-joined options x lower upper

@@ -1,0 +1,268 @@
+// Columns of any kind compared row by row.
+ghost use Rattle.std.specs.Prelude.{◌≡◌, IfOk, IsTrue, None, Some, length, option_map, replicate};
+ghost use Rattle.vortex_types.specs.Order.{accepts, value_cmp};
+ghost use Rattle.vortex_types.specs.Row.{nullability, value_fits};
+ghost use Rattle.vortex_types.specs.Seen.{value_seen};
+ghost use Rattle.vortex_types.specs.Truth.{lower_operator as operator_of_lower, upper_operator as operator_of_upper};
+ghost use Rattle.vortex_types.specs.Typed.{same_apart_from_nullability};
+ghost use Rattle.vortex_types.specs.declared.types.Nullability.TheVariants.{Nullable};
+ghost use Rattle.vortex_columns.specs.Truths.{bounded, compared, either, truths};
+ghost use Rattle.vortex_comparisons.specs.Repeated.{repeated};
+ghost use Rattle.vortex_comparisons.specs.Turned.{turned};
+ghost use Rattle.vortex_array.specs.ColumnOf.{bool_column, column_of, constant_column, decimal_column, is_plain, primitive_column};
+
+use crate::arrays::Array;
+use std::alloc::{AllocError, Global};
+use vortex_columns::{BoolArray, ConstantArray, DecimalArray, PrimitiveArray, VarBinViewArray};
+use vortex_comparisons::{
+    compare_decimal_value, compare_decimals, compare_list_value, compare_lists,
+    compare_number_value, compare_numbers, compare_truth_value, compare_truths, compare_values,
+    equal_answers, null_answers, turned_operator,
+};
+use vortex_types::{
+    BetweenOptions, CompareOperator, DType, Nullability, StrictComparison, ValueRef,
+};
+
+impl Array {
+    /// Row by row whether the operator holds of this column and another of the same length and, apart from nullability, of
+    /// the same type. Null where a row is null.
+    pub fn compare(
+        &self,
+        alloc: Global,
+        rhs: &Array,
+        operator: CompareOperator,
+    ) -> Result<BoolArray, AllocError>
+        requires same_length { length (column_of self.now).rows ≡ length (column_of rhs.now).rows }
+        requires same_type { IsTrue (same_apart_from_nullability (column_of self.now).dtype (column_of rhs.now).dtype) }
+        ensures { IfOk result (λ a. bool_column a ≡ compared operator (column_of self.now) (column_of rhs.now)) }
+    {
+        match rhs {
+            Array::Constant(constant) => compare_constant(alloc, self, constant, operator),
+            _ => compare_plain(alloc, self, rhs, operator),
+        }
+    }
+
+    /// Row by row whether the value lies between its bounds, each bound itself left out where it is strict. All three columns
+    /// have one length and, apart from nullability, one type. Null where a row of the three is null.
+    pub fn between(
+        &self,
+        alloc: Global,
+        lower: &Array,
+        upper: &Array,
+        options: &BetweenOptions,
+    ) -> Result<BoolArray, AllocError>
+        requires lower_length { length (column_of self.now).rows ≡ length (column_of lower.now).rows }
+        requires lower_type { IsTrue (same_apart_from_nullability (column_of self.now).dtype (column_of lower.now).dtype) }
+        requires upper_length { length (column_of self.now).rows ≡ length (column_of upper.now).rows }
+        requires upper_type { IsTrue (same_apart_from_nullability (column_of self.now).dtype (column_of upper.now).dtype) }
+        ensures { IfOk result (λ a. bool_column a ≡ bounded options.now (column_of self.now) (column_of lower.now) (column_of upper.now)) }
+    {
+        let above = self.compare(alloc, lower, lower_operator(options.lower_strict))?;
+        let below = self.compare(alloc, upper, upper_operator(options.upper_strict))?;
+        let between = above.both_true(alloc, &below)?;
+        Ok(between)
+    }
+}
+
+// How a value is compared with its lower bound.
+fn lower_operator(strict: StrictComparison) -> CompareOperator
+    ensures { result ≡ operator_of_lower strict }
+{
+    match strict {
+        StrictComparison::Strict => CompareOperator::Gt,
+        StrictComparison::NonStrict => CompareOperator::Gte,
+    }
+}
+
+// How a value is compared with its upper bound.
+fn upper_operator(strict: StrictComparison) -> CompareOperator
+    ensures { result ≡ operator_of_upper strict }
+{
+    match strict {
+        StrictComparison::Strict => CompareOperator::Lt,
+        StrictComparison::NonStrict => CompareOperator::Lte,
+    }
+}
+
+// A column compared with one that is no constant.
+fn compare_plain(
+    alloc: Global,
+    left: &Array,
+    right: &Array,
+    operator: CompareOperator,
+) -> Result<BoolArray, AllocError>
+    requires same_length { length (column_of left.now).rows ≡ length (column_of right.now).rows }
+    requires same_type { IsTrue (same_apart_from_nullability (column_of left.now).dtype (column_of right.now).dtype) }
+    requires plain { IsTrue (is_plain right.now) }
+    ensures { IfOk result (λ a. bool_column a ≡ compared operator (column_of left.now) (column_of right.now)) }
+{
+    match left {
+        Array::Constant(left) => compare_constant(alloc, right, left, turned_operator(operator)),
+        Array::Bool(left) => compare_with_truths(alloc, left, right, operator),
+        Array::Primitive(left) => compare_with_numbers(alloc, left, right, operator),
+        Array::Decimal(left) => compare_with_decimals(alloc, left, right, operator),
+        Array::VarBinView(left) => compare_with_lists(alloc, left, right, operator),
+    }
+}
+
+// Truth values compared with a column of their kind.
+fn compare_with_truths(
+    alloc: Global,
+    left: &BoolArray,
+    right: &Array,
+    operator: CompareOperator,
+) -> Result<BoolArray, AllocError>
+    requires same_length { length (bool_column left.now).rows ≡ length (column_of right.now).rows }
+    requires same_type { IsTrue (same_apart_from_nullability (bool_column left.now).dtype (column_of right.now).dtype) }
+    requires plain { IsTrue (is_plain right.now) }
+    ensures { IfOk result (λ a. bool_column a ≡ compared operator (bool_column left.now) (column_of right.now)) }
+{
+    match right {
+        Array::Bool(right) => compare_truths(alloc, left, right, operator),
+        Array::Primitive(_) => unreachable!(),
+        Array::Decimal(_) => unreachable!(),
+        Array::VarBinView(right) => {
+            let _ = right.dtype();
+            unreachable!()
+        }
+        Array::Constant(_) => unreachable!(),
+    }
+}
+
+// Whole numbers compared with a column of their width.
+fn compare_with_numbers(
+    alloc: Global,
+    left: &PrimitiveArray,
+    right: &Array,
+    operator: CompareOperator,
+) -> Result<BoolArray, AllocError>
+    requires same_length { length (primitive_column left.now).rows ≡ length (column_of right.now).rows }
+    requires same_type { IsTrue (same_apart_from_nullability (primitive_column left.now).dtype (column_of right.now).dtype) }
+    requires plain { IsTrue (is_plain right.now) }
+    ensures { IfOk result (λ a. bool_column a ≡ compared operator (primitive_column left.now) (column_of right.now)) }
+{
+    match right {
+        Array::Bool(_) => unreachable!(),
+        Array::Primitive(right) => compare_numbers(alloc, left, right, operator),
+        Array::Decimal(_) => unreachable!(),
+        Array::VarBinView(right) => {
+            let _ = right.dtype();
+            unreachable!()
+        }
+        Array::Constant(_) => unreachable!(),
+    }
+}
+
+// Decimals compared with a column of their kind.
+fn compare_with_decimals(
+    alloc: Global,
+    left: &DecimalArray,
+    right: &Array,
+    operator: CompareOperator,
+) -> Result<BoolArray, AllocError>
+    requires same_length { length (decimal_column left.now).rows ≡ length (column_of right.now).rows }
+    requires same_type { IsTrue (same_apart_from_nullability (decimal_column left.now).dtype (column_of right.now).dtype) }
+    requires plain { IsTrue (is_plain right.now) }
+    ensures { IfOk result (λ a. bool_column a ≡ compared operator (decimal_column left.now) (column_of right.now)) }
+{
+    match right {
+        Array::Bool(_) => unreachable!(),
+        Array::Primitive(_) => unreachable!(),
+        Array::Decimal(right) => compare_decimals(alloc, left, right, operator),
+        Array::VarBinView(right) => {
+            let _ = right.dtype();
+            unreachable!()
+        }
+        Array::Constant(_) => unreachable!(),
+    }
+}
+
+// Texts or bytes compared with a column of their kind.
+fn compare_with_lists(
+    alloc: Global,
+    left: &VarBinViewArray,
+    right: &Array,
+    operator: CompareOperator,
+) -> Result<BoolArray, AllocError>
+    requires same_length { length left.now.rows ≡ length (column_of right.now).rows }
+    requires same_type { IsTrue (same_apart_from_nullability left.now.dtype (column_of right.now).dtype) }
+    requires plain { IsTrue (is_plain right.now) }
+    ensures { IfOk result (λ a. bool_column a ≡ compared operator left.now (column_of right.now)) }
+{
+    let _ = left.dtype();
+    match right {
+        Array::Bool(_) => unreachable!(),
+        Array::Primitive(_) => unreachable!(),
+        Array::Decimal(_) => unreachable!(),
+        Array::VarBinView(right) => compare_lists(alloc, left, right, operator),
+        Array::Constant(_) => unreachable!(),
+    }
+}
+
+// A column compared with equal rows.
+fn compare_constant(
+    alloc: Global,
+    left: &Array,
+    constant: &ConstantArray,
+    operator: CompareOperator,
+) -> Result<BoolArray, AllocError>
+    requires same_length { length (column_of left.now).rows ≡ length (constant_column constant.now).rows }
+    requires same_type { IsTrue (same_apart_from_nullability (column_of left.now).dtype (constant_column constant.now).dtype) }
+    ensures { IfOk result (λ a. bool_column a ≡ compared operator (column_of left.now) (constant_column constant.now)) }
+{
+    match constant.scalar().value_ref() {
+        Some(value) => compare_value(alloc, left, constant.dtype(), value, operator),
+        None => null_answers(alloc, constant.len()),
+    }
+}
+
+// A column compared with one value in each row.
+fn compare_value(
+    alloc: Global,
+    left: &Array,
+    dtype: DType,
+    value: ValueRef<'_>,
+    operator: CompareOperator,
+) -> Result<BoolArray, AllocError>
+    requires { IsTrue (value_fits (column_of left.now).dtype (value_seen value)) }
+    ensures { IfOk result (λ a. bool_column a ≡ compared operator (column_of left.now) (repeated dtype (value_seen value.entry) (length (column_of left.now).rows))) }
+{
+    match left {
+        Array::Bool(left) => compare_truth_value(alloc, left, dtype, value, operator),
+        Array::Primitive(left) => compare_number_value(alloc, left, dtype, value, operator),
+        Array::Decimal(left) => compare_decimal_value(alloc, left, dtype, value, operator),
+        Array::VarBinView(left) => compare_list_value(alloc, left, dtype, value, operator),
+        Array::Constant(left) => compare_equal_rows(alloc, left, dtype, value, operator),
+    }
+}
+
+// Equal rows compared with one value in each row.
+fn compare_equal_rows(
+    alloc: Global,
+    left: &ConstantArray,
+    dtype: DType,
+    value: ValueRef<'_>,
+    operator: CompareOperator,
+) -> Result<BoolArray, AllocError>
+    ensures { IfOk result (λ a. bool_column a ≡ compared operator (constant_column left.now) (repeated dtype (value_seen value.entry) (length (constant_column left.now).rows))) }
+{
+    match left.scalar().value_ref() {
+        Some(own) => {
+            let nullability = either_nullability(left.dtype(), dtype);
+            let answer = compare_values(operator, own, value);
+            equal_answers(alloc, answer, nullability, left.len())
+        }
+        None => null_answers(alloc, left.len()),
+    }
+}
+
+// Nullable where one of two types is.
+fn either_nullability(a: DType, b: DType) -> Nullability
+    ensures { result ≡ either (nullability a) (nullability b) }
+{
+    if a.is_nullable() || b.is_nullable() {
+        Nullability::Nullable
+    } else {
+        Nullability::NonNullable
+    }
+}

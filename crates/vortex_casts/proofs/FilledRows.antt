@@ -1,0 +1,117 @@
+-- Rows whose nulls are filled.
+use Rattle.std.proofs.Common.{ℕ, zero, suc, ◌<◌, ◌≡◌, ◌+◌, Bool, true, false, cond, List, [], ◌∷◌, ◌++◌, length, get_or, take, map, refl, sym, ap, ◌∙◌, arith, Option, Some, None}
+use Rattle.std.specs.Prelude.{IsTrue, replicate}
+use Rattle.std.specs.Simd.Lanes.{zip2}
+use Rattle.std.proofs.lemmas.List.{ext_get_or, get_or_default, length-replicate, length-map, get_or-map, get_or-replicate}
+use Rattle.std.proofs.lemmas.Simd.{length-zip2, get_or-zip2}
+use Rattle.std.proofs.lemmas.Bool.Decides.{Decides-eqb}
+use Rattle.vortex_types.specs.declared.types.Nullability.{Nullability}
+use Rattle.vortex_types.specs.declared.types.Nullability.TheVariants as nulls
+use Rattle.vortex_types.specs.Row.{Column}
+use Rattle.vortex_types.specs.declared.types.DType.{DType}
+use Rattle.vortex_types.specs.declared.scalar.Value.{Value}
+use Rattle.vortex_columns.specs.Validities.{row_of, rows_under, is_as_long, valid_at, valid_bits, nullability_of}
+use Rattle.vortex_columns.specs.declared.validity.Validity.{Validity}
+use Rattle.vortex_columns.specs.declared.validity.Validity.TheVariants.{NonNullable, AllValid, AllInvalid, Bits}
+use Rattle.vortex_columns.proofs.RowLemmas.{length-rows-map, row-at}
+use Rattle.vortex_casts.specs.Filled.{filled, filled_row, filled_items, full_validity}
+
+-- one more item
+pub filled-more : {X : Type 0} (fill : X) (items : List X) (present : List Bool) (n : ℕ) (x : X) → n < length items → n < length present → x ≡ cond (get_or present n false) (get_or items n fill) fill
+    → filled_items fill (take (n + 1) items) (take (n + 1) present) ≡ filled_items fill (take n items) (take n present) ++ x ∷ []
+filled-more fill [] present n x l m h = absurd (omega arith)
+filled-more fill (y ∷ items) [] n x l m h = absurd (omega arith)
+filled-more fill (y ∷ items) (b ∷ present) zero x l m h = ap (λ z. z ∷ []) (sym h)
+filled-more fill (y ∷ items) (b ∷ present) (suc n) x l m h =
+    let next : suc n + 1 ≡ suc (n + 1) = omega arith in
+    rw next (ap (λ ys. cond b y fill ∷ ys) (filled-more fill items present n x (omega arith) (omega arith) h))
+
+-- as many bits as rows
+pub length-valid : (v : Validity) (n : ℕ) → IsTrue (is_as_long v n) → length (valid_bits v n) ≡ n
+length-valid NonNullable n e = length-replicate n true
+length-valid AllValid n e = length-replicate n true
+length-valid AllInvalid n e = length-replicate n false
+length-valid (Bits bits) n e = (Decides-eqb (length bits) n).0 e
+
+-- the bit of a row says whether it is not null
+pub valid-bit : (v : Validity) (n i : ℕ) → i < n → get_or (valid_bits v n) i false ≡ valid_at v i
+valid-bit NonNullable n i l = get_or-replicate n i true false l
+valid-bit AllValid n i l = get_or-replicate n i true false l
+valid-bit AllInvalid n i l = get_or-replicate n i false false l
+valid-bit (Bits bits) n i l = refl
+
+-- as many items as before
+pub length-filled : {X : Type 0} (fill : X) (v : Validity) (xs : List X) → IsTrue (is_as_long v (length xs)) → length (filled_items fill xs (valid_bits v (length xs))) ≡ length xs
+length-filled fill v xs e = length-zip2 (λ x p. cond p x fill) xs (valid_bits v (length xs)) (sym (length-valid v (length xs) e))
+
+-- the item at a place
+pub filled-at : {X : Type 0} (fill : X) (v : Validity) (xs : List X) (i : ℕ) → IsTrue (is_as_long v (length xs)) → i < length xs
+    → get_or (filled_items fill xs (valid_bits v (length xs))) i fill ≡ cond (valid_at v i) (get_or xs i fill) fill
+filled-at fill v xs i e l =
+    let inside : i < length (valid_bits v (length xs)) = omega (arith, l, length-valid v (length xs) e) in
+    get_or-zip2 (λ x p. cond p x fill) xs (valid_bits v (length xs)) i fill false fill l inside
+    ∙ ap (λ b. cond b (get_or xs i fill) fill) (valid-bit v (length xs) i l)
+
+filled-one : {X : Type 0} (f : X → Value) (x fill : X) (b : Bool) → row_of (f (cond b x fill)) true ≡ filled_row (Some (f fill)) (row_of (f x) b)
+filled-one f x fill true = refl
+filled-one f x fill false = refl
+
+full-long : (n : Nullability) (len : ℕ) → IsTrue (is_as_long (full_validity n) len)
+full-long nulls.NonNullable len = refl
+full-long nulls.Nullable len = refl
+
+full-valid : (n : Nullability) (i : ℕ) → valid_at (full_validity n) i ≡ true
+full-valid nulls.NonNullable i = refl
+full-valid nulls.Nullable i = refl
+
+-- the type of a column without a null
+pub full-type : (n : Nullability) → nullability_of (full_validity n) ≡ n
+full-type nulls.NonNullable = refl
+full-type nulls.Nullable = refl
+
+-- the rows of filled items are the filled rows
+pub filled-rows : {X : Type 0} (f : X → Value) (fill : X) (n : Nullability) (v : Validity) (xs : List X) → IsTrue (is_as_long v (length xs))
+    → rows_under (full_validity n) (map f (filled_items fill xs (valid_bits v (length xs)))) ≡ map (filled_row (Some (f fill))) (rows_under v (map f xs))
+filled-rows f fill n v xs e =
+    let ys = filled_items fill xs (valid_bits v (length xs)) in
+    let rows = rows_under v (map f xs) in
+    let w = full_validity n in
+    let long : length ys ≡ length xs = length-filled fill v xs e in
+    ext_get_or None (rows_under w (map f ys)) (map (filled_row (Some (f fill))) rows)
+    (length-rows-map f w ys (full-long n (length ys)) ∙ long ∙ sym (length-map rows (filled_row (Some (f fill))) ∙ length-rows-map f v xs e))
+    (λ i l.
+    let inside : i < length xs = omega (arith, l, long, length-rows-map f w ys (full-long n (length ys))) in
+    sym (row-at f w ys i fill (full-long n (length ys)) (omega (arith, inside, long)))
+    ∙ ap (row_of (f (get_or ys i fill))) (full-valid n i)
+    ∙ ap (λ y. row_of (f y) true) (filled-at fill v xs i e inside)
+    ∙ filled-one f (get_or xs i fill) fill (valid_at v i)
+    ∙ ap (filled_row (Some (f fill))) (row-at f v xs i fill e inside)
+    ∙ sym (get_or-map (filled_row (Some (f fill))) rows i None None (omega (arith, inside, length-rows-map f v xs e))))
+
+-- the item that is given for a place
+pub filled-here : {X : Type 0} (fill : X) (v : Validity) (xs : List X) (i : ℕ) (x d : X) → IsTrue (is_as_long v (length xs)) → i < length xs → x ≡ cond (valid_at v i) (get_or xs i d) fill
+    → x ≡ get_or (filled_items fill xs (valid_bits v (length xs))) i x
+filled-here fill v xs i x d e l h =
+    h
+    ∙ ap (λ y. cond (valid_at v i) y fill) (get_or_default xs i d fill l)
+    ∙ sym (filled-at fill v xs i e l)
+    ∙ get_or_default (filled_items fill xs (valid_bits v (length xs))) i fill x (omega (arith, l, length-filled fill v xs e))
+
+-- one more item of a column
+pub filled-next : {X : Type 0} (fill : X) (v : Validity) (xs : List X) (i : ℕ) (x d : X) → IsTrue (is_as_long v (length xs)) → i < length xs → x ≡ cond (valid_at v i) (get_or xs i d) fill
+    → filled_items fill (take (i + 1) xs) (take (i + 1) (valid_bits v (length xs))) ≡ filled_items fill (take i xs) (take i (valid_bits v (length xs))) ++ x ∷ []
+filled-next fill v xs i x d e l h =
+    filled-more fill xs (valid_bits v (length xs)) i x l (omega (arith, l, length-valid v (length xs) e))
+    (h ∙ ap (λ y. cond (valid_at v i) y fill) (get_or_default xs i d fill l) ∙ ap (λ b. cond b (get_or xs i fill) fill) (sym (valid-bit v (length xs) i l)))
+
+-- the numbers of filled items are the filled numbers
+pub map-filled : {X Y : Type 0} (f : X → Y) (fill : X) (xs : List X) (present : List Bool) → map f (filled_items fill xs present) ≡ filled_items (f fill) (map f xs) present
+map-filled f fill [] present = refl
+map-filled f fill (x ∷ xs) [] = refl
+map-filled f fill (x ∷ xs) (true ∷ present) = ap (λ ys. f x ∷ ys) (map-filled f fill xs present)
+map-filled f fill (x ∷ xs) (false ∷ present) = ap (λ ys. f fill ∷ ys) (map-filled f fill xs present)
+
+-- a column of filled items, of a type with nulls or without
+pub filled-column : {X : Type 0} (K : Nullability → DType) (f : X → Value) (fill : X) (n : Nullability) (v : Validity) (xs ys : List X) (t : DType) → IsTrue (is_as_long v (length xs)) → ys ≡ filled_items fill xs (valid_bits v (length xs))
+    → ◌≡◌ {A = Column} (record { dtype = K (nullability_of (full_validity n)); rows = rows_under (full_validity n) (map f ys) }) (filled (record { dtype = K n; value = Some (f fill) }) (record { dtype = t; rows = rows_under v (map f xs) }))
+filled-column K f fill n v xs ys t e same = rw (same, full-type n, filled-rows f fill n v xs e) refl

@@ -1,0 +1,4 @@
+pub mod Casts
+pub mod Filled
+pub mod Lanes
+pub mod Texts

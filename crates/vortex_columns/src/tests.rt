@@ -1,0 +1,3 @@
+// Columns of each kind, by worked rows.
+mod kinds;
+mod three_values;

@@ -1,0 +1,194 @@
+// Two values compared, and columns of one answer.
+ghost use Rattle.std.specs.Prelude.{◌≡◌, IfOk, IsTrue, None, Some, length, replicate};
+ghost use Rattle.vortex_types.specs.Order.{accepts, compares, value_cmp};
+ghost use Rattle.vortex_types.specs.Row.{nullability, value_fits};
+ghost use Rattle.vortex_types.specs.Seen.{value_seen};
+ghost use Rattle.vortex_types.specs.declared.types.Nullability.TheVariants.{Nullable};
+ghost use Rattle.vortex_columns.specs.Kinds.{bool_column, decimal_column, primitive_column};
+ghost use Rattle.vortex_columns.specs.Truths.{compared, truths};
+ghost use Rattle.vortex_comparisons.specs.Repeated.{repeated};
+
+use crate::decimals::compare_decimals_with;
+use crate::lists::compare_lists_with;
+use crate::numbers::compare_numbers_with;
+use crate::truths::compare_truths_with;
+use std::alloc::{AllocError, Global};
+use std::cmp::Ordering;
+use vortex_buffer::BitBuffer;
+use vortex_columns::{BoolArray, DecimalArray, PrimitiveArray, Validity, VarBinViewArray};
+use vortex_types::{CompareOperator, DType, Nullability, ValueRef};
+
+/// How two values stand, or none where they are of two kinds.
+pub fn order_of(a: ValueRef<'_>, b: ValueRef<'_>) -> Option<Ordering>
+    ensures { result ≡ value_cmp (value_seen a.entry) (value_seen b.entry) }
+{
+    match (a, b) {
+        (ValueRef::Bool(a), ValueRef::Bool(b)) => Some(a.cmp(&b)),
+        (ValueRef::Int(a), ValueRef::Int(b)) => Some(a.cmp(&b)),
+        (ValueRef::Decimal(a), ValueRef::Decimal(b)) => Some(a.cmp(&b)),
+        (ValueRef::Utf8(a), ValueRef::Utf8(b)) => Some(a.cmp(b)),
+        (ValueRef::Binary(a), ValueRef::Binary(b)) => Some(a.cmp(b)),
+        _ => None,
+    }
+}
+
+// Whether the operator holds of two values that stand so.
+fn holds_of(operator: CompareOperator, order: Ordering) -> bool
+    ensures { result ≡ accepts operator order }
+{
+    match operator {
+        CompareOperator::Eq => order.is_eq(),
+        CompareOperator::NotEq => order.is_ne(),
+        CompareOperator::Gt => order.is_gt(),
+        CompareOperator::Gte => order.is_ge(),
+        CompareOperator::Lt => order.is_lt(),
+        CompareOperator::Lte => order.is_le(),
+    }
+}
+
+/// Whether the operator holds of two values. None holds of values of two kinds.
+pub fn compare_values(operator: CompareOperator, a: ValueRef<'_>, b: ValueRef<'_>) -> bool
+    ensures { result ≡ compares operator (value_seen a.entry) (value_seen b.entry) }
+{
+    match order_of(a, b) {
+        Some(order) => holds_of(operator, order),
+        None => false,
+    }
+}
+
+/// So many rows of one truth value, in a type with nulls or without.
+pub fn equal_answers(
+    alloc: Global,
+    answer: bool,
+    nullability: Nullability,
+    len: usize,
+) -> Result<BoolArray, AllocError>
+    ensures { IfOk result (λ a. bool_column a ≡ truths nullability (replicate len (Some answer))) }
+{
+    let bits = equal_bits(alloc, answer, len)?;
+    Ok(BoolArray::from_parts(bits, Validity::of_values(nullability)))
+}
+
+/// So many rows of null.
+pub fn null_answers(alloc: Global, len: usize) -> Result<BoolArray, AllocError>
+    ensures { IfOk result (λ a. bool_column a ≡ truths Nullable (replicate len None)) }
+{
+    let bits = BitBuffer::new_unset(alloc, len)?;
+    Ok(BoolArray::from_parts(bits, Validity::AllInvalid))
+}
+
+// So many bits that are all this one.
+fn equal_bits(alloc: Global, bit: bool, len: usize) -> Result<BitBuffer, AllocError>
+    ensures { IfOk result (λ bits. bits ≡ replicate len bit) }
+{
+    if bit {
+        Validity::AllValid.to_bits(alloc, len)
+    } else {
+        BitBuffer::new_unset(alloc, len)
+    }
+}
+
+// Whether the type has nulls.
+fn nullability_of_type(dtype: DType) -> Nullability
+    ensures { result ≡ nullability dtype }
+{
+    match dtype {
+        DType::Bool(nullability) => nullability,
+        DType::Primitive(_, nullability) => nullability,
+        DType::Decimal(_, nullability) => nullability,
+        DType::Utf8(nullability) => nullability,
+        DType::Binary(nullability) => nullability,
+    }
+}
+
+/// Row by row whether the operator holds of a column and one value that fits it, null where the row is null. Of the other
+/// type only its nulls count: the answer has nulls where one of the two has.
+pub fn compare_truth_value(
+    alloc: Global,
+    left: &BoolArray,
+    dtype: DType,
+    value: ValueRef<'_>,
+    operator: CompareOperator,
+) -> Result<BoolArray, AllocError>
+    requires { IsTrue (value_fits (bool_column left.now).dtype (value_seen value)) }
+    ensures { IfOk result (λ a. bool_column a ≡ compared operator (bool_column left.now) (repeated dtype (value_seen value.entry) (length (bool_column left.now).rows))) }
+{
+    match value {
+        ValueRef::Bool(constant) => {
+            compare_truths_with(alloc, left, constant, nullability_of_type(dtype), operator)
+        }
+        _ => unreachable!(),
+    }
+}
+
+/// Row by row whether the operator holds of a column and one value that fits it, null where the row is null. Of the other
+/// type only its nulls count: the answer has nulls where one of the two has.
+pub fn compare_number_value(
+    alloc: Global,
+    left: &PrimitiveArray,
+    dtype: DType,
+    value: ValueRef<'_>,
+    operator: CompareOperator,
+) -> Result<BoolArray, AllocError>
+    requires { IsTrue (value_fits (primitive_column left.now).dtype (value_seen value)) }
+    ensures { IfOk result (λ a. bool_column a ≡ compared operator (primitive_column left.now) (repeated dtype (value_seen value.entry) (length (primitive_column left.now).rows))) }
+{
+    match value {
+        ValueRef::Int(number) => {
+            compare_numbers_with(alloc, left, number, nullability_of_type(dtype), operator)
+        }
+        _ => unreachable!(),
+    }
+}
+
+/// Row by row whether the operator holds of a column and one value that fits it, null where the row is null. Of the other
+/// type only its nulls count: the answer has nulls where one of the two has.
+pub fn compare_decimal_value(
+    alloc: Global,
+    left: &DecimalArray,
+    dtype: DType,
+    value: ValueRef<'_>,
+    operator: CompareOperator,
+) -> Result<BoolArray, AllocError>
+    requires { IsTrue (value_fits (decimal_column left.now).dtype (value_seen value)) }
+    ensures { IfOk result (λ a. bool_column a ≡ compared operator (decimal_column left.now) (repeated dtype (value_seen value.entry) (length (decimal_column left.now).rows))) }
+{
+    match value {
+        ValueRef::Decimal(number) => {
+            compare_decimals_with(alloc, left, number, nullability_of_type(dtype), operator)
+        }
+        _ => unreachable!(),
+    }
+}
+
+/// Row by row whether the operator holds of a column and one value that fits it, null where the row is null. Of the other
+/// type only its nulls count: the answer has nulls where one of the two has.
+pub fn compare_list_value(
+    alloc: Global,
+    left: &VarBinViewArray,
+    dtype: DType,
+    value: ValueRef<'_>,
+    operator: CompareOperator,
+) -> Result<BoolArray, AllocError>
+    requires { IsTrue (value_fits left.now.dtype (value_seen value)) }
+    ensures { IfOk result (λ a. bool_column a ≡ compared operator left.now (repeated dtype (value_seen value.entry) (length left.now.rows))) }
+{
+    let _ = left.dtype();
+    match value {
+        ValueRef::Utf8(text) => {
+            compare_lists_with(
+                alloc,
+                left,
+                text.as_bytes(),
+                nullability_of_type(dtype),
+                operator,
+            )
+        }
+        ValueRef::Binary(bytes) => {
+            compare_lists_with(alloc, left, bytes, nullability_of_type(dtype), operator)
+        }
+        ValueRef::Bool(_) => unreachable!(),
+        ValueRef::Int(_) => unreachable!(),
+        ValueRef::Decimal(_) => unreachable!(),
+    }
+}

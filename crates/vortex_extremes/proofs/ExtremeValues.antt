@@ -1,0 +1,146 @@
+-- The extreme values of a column, from the places of them.
+use Rattle.std.proofs.Common.{ℕ, zero, suc, ◌<◌, ◌≡◌, Bool, true, false, List, length, get_or, refl, sym, ap, ◌∙◌, arith, Option, Some, None}
+use Rattle.std.specs.Prelude.{IsTrue, is_some, Contains, All, replicate}
+use Rattle.std.proofs.lemmas.Bool.{false≢true}
+use Rattle.std.proofs.lemmas.List.{get_or_default, get_or-replicate, length-replicate}
+use Rattle.vortex_types.specs.Order.{compares}
+use Rattle.vortex_types.specs.Row.{Column, TypedRow, value_fits}
+use Rattle.vortex_types.specs.declared.types.DType.{DType}
+use Rattle.vortex_types.specs.declared.types.DType.TheVariants as dtype
+use Rattle.vortex_types.specs.declared.scalar.Value.{Value}
+use Rattle.vortex_types.specs.declared.scalar.Value.TheVariants.{Bool as Truth, Int, Decimal, Utf8, Binary}
+use Rattle.vortex_compute.specs.declared.compare.CompareOperator.TheVariants.{Lte}
+use Rattle.vortex_extremes.specs.InOrder.{at_most}
+use Rattle.vortex_extremes.specs.Extremes.{LeastOf, GreatestOf, NoneOf, LeastBelow, GreatestBelow, AreExtremes, IsLeast, IsGreatest, HasNoValue, full_form}
+use Rattle.vortex_extremes.specs.Asked.{FirstValue}
+use Rattle.vortex_extremes.proofs.OrderLaws.{at_most-itself}
+
+-- what is at most another is so by the operator
+compares-at_most : (v w : Value) → IsTrue (at_most (Some v) (Some w)) → IsTrue (compares Lte v w)
+compares-at_most (Truth a) (Truth b) h = h
+compares-at_most (Truth a) (Int b) h = h
+compares-at_most (Truth a) (Decimal b) h = h
+compares-at_most (Truth a) (Utf8 b) h = h
+compares-at_most (Truth a) (Binary b) h = h
+compares-at_most (Int a) (Truth b) h = h
+compares-at_most (Int a) (Int b) h = h
+compares-at_most (Int a) (Decimal b) h = h
+compares-at_most (Int a) (Utf8 b) h = h
+compares-at_most (Int a) (Binary b) h = h
+compares-at_most (Decimal a) (Truth b) h = h
+compares-at_most (Decimal a) (Int b) h = h
+compares-at_most (Decimal a) (Decimal b) h = h
+compares-at_most (Decimal a) (Utf8 b) h = h
+compares-at_most (Decimal a) (Binary b) h = h
+compares-at_most (Utf8 a) (Truth b) h = h
+compares-at_most (Utf8 a) (Int b) h = h
+compares-at_most (Utf8 a) (Decimal b) h = h
+compares-at_most (Utf8 a) (Utf8 b) h = h
+compares-at_most (Utf8 a) (Binary b) h = h
+compares-at_most (Binary a) (Truth b) h = h
+compares-at_most (Binary a) (Int b) h = h
+compares-at_most (Binary a) (Decimal b) h = h
+compares-at_most (Binary a) (Utf8 b) h = h
+compares-at_most (Binary a) (Binary b) h = h
+
+-- a value fits a type where it fits the type without nulls
+pub full-fits : (t : DType) (v : Value) → value_fits (full_form t) v ≡ value_fits t v
+full-fits (dtype.Bool n) (Truth a) = refl
+full-fits (dtype.Bool n) (Int a) = refl
+full-fits (dtype.Bool n) (Decimal a) = refl
+full-fits (dtype.Bool n) (Utf8 a) = refl
+full-fits (dtype.Bool n) (Binary a) = refl
+full-fits (dtype.Primitive w n) (Truth a) = refl
+full-fits (dtype.Primitive w n) (Int a) = refl
+full-fits (dtype.Primitive w n) (Decimal a) = refl
+full-fits (dtype.Primitive w n) (Utf8 a) = refl
+full-fits (dtype.Primitive w n) (Binary a) = refl
+full-fits (dtype.Decimal w n) (Truth a) = refl
+full-fits (dtype.Decimal w n) (Int a) = refl
+full-fits (dtype.Decimal w n) (Decimal a) = refl
+full-fits (dtype.Decimal w n) (Utf8 a) = refl
+full-fits (dtype.Decimal w n) (Binary a) = refl
+full-fits (dtype.Utf8 n) (Truth a) = refl
+full-fits (dtype.Utf8 n) (Int a) = refl
+full-fits (dtype.Utf8 n) (Decimal a) = refl
+full-fits (dtype.Utf8 n) (Utf8 a) = refl
+full-fits (dtype.Utf8 n) (Binary a) = refl
+full-fits (dtype.Binary n) (Truth a) = refl
+full-fits (dtype.Binary n) (Int a) = refl
+full-fits (dtype.Binary n) (Decimal a) = refl
+full-fits (dtype.Binary n) (Utf8 a) = refl
+full-fits (dtype.Binary n) (Binary a) = refl
+
+held : (rows : List (Option Value)) (i : ℕ) (v : Value) → i < length rows → get_or rows i None ≡ Some v → Contains rows (Some v)
+held rows i v l e = (i, l, get_or_default rows i (Some v) None l ∙ e)
+
+-- the value at the least place is the least
+pub least-value : (rows : List (Option Value)) (i : ℕ) (v : Value) → LeastOf rows (length rows) i → get_or rows i None ≡ Some v → IsLeast rows v
+least-value rows i v h e =
+    record {
+      among = held rows i v h.within e;
+      bound = λ w k.
+          let here : get_or rows k.0 None ≡ Some w = get_or_default rows k.0 None (Some w) k.1 ∙ k.2 in
+          compares-at_most v w (rw (e, here) at (h.bound k.0 k.1 (ap is_some here)));
+    }
+
+-- the value at the greatest place is the greatest
+pub greatest-value : (rows : List (Option Value)) (i : ℕ) (v : Value) → GreatestOf rows (length rows) i → get_or rows i None ≡ Some v → IsGreatest rows v
+greatest-value rows i v h e =
+    record {
+      among = held rows i v h.within e;
+      bound = λ w k.
+          let here : get_or rows k.0 None ≡ Some w = get_or_default rows k.0 None (Some w) k.1 ∙ k.2 in
+          compares-at_most w v (rw (e, here) at (h.bound k.0 k.1));
+    }
+
+-- no place is no value
+pub no-value : (rows : List (Option Value)) → NoneOf rows (length rows) → HasNoValue rows
+no-value rows h = λ i d l. get_or_default rows i d None l ∙ h.null i l
+
+-- the first of equal rows is extreme where it is a value
+pub equal-least : (n : ℕ) (row : Option Value) → 0 < n → is_some row ≡ true → LeastOf (replicate n row) (length (replicate n row)) 0
+equal-least n row l s =
+    record {
+      within = omega (arith, l, length-replicate n row);
+      some = ap is_some (get_or-replicate n 0 row None l) ∙ s;
+      bound = λ j m _. rw (get_or-replicate n 0 row None l, get_or-replicate n j row None (omega (arith, m, length-replicate n row))) (at_most-itself row);
+    }
+
+pub equal-greatest : (n : ℕ) (row : Option Value) → 0 < n → is_some row ≡ true → GreatestOf (replicate n row) (length (replicate n row)) 0
+equal-greatest n row l s =
+    record {
+      within = omega (arith, l, length-replicate n row);
+      some = ap is_some (get_or-replicate n 0 row None l) ∙ s;
+      bound = λ j m. rw (get_or-replicate n 0 row None l, get_or-replicate n j row None (omega (arith, m, length-replicate n row))) (at_most-itself row);
+    }
+
+-- and none is where there is no row, or it is null
+pub equal-none : (n : ℕ) (row : Option Value) → (0 < n → row ≡ None) → NoneOf (replicate n row) (length (replicate n row))
+equal-none n row h =
+    record { null = λ j m. get_or-replicate n j row None (omega (arith, m, length-replicate n row)) ∙ h (omega (arith, m, length-replicate n row)) }
+
+-- so the first place is that of both extreme values
+pub first-least : (n : ℕ) (row : Option Value) (place : Option ℕ) → FirstValue n row place → LeastBelow (replicate n row) (length (replicate n row)) place
+first-least n row None h = equal-none n row h
+first-least n row (Some i) h = rw h.0 (equal-least n row h.1 h.2)
+
+pub first-greatest : (n : ℕ) (row : Option Value) (place : Option ℕ) → FirstValue n row place → GreatestBelow (replicate n row) (length (replicate n row)) place
+first-greatest n row None h = equal-none n row h
+first-greatest n row (Some i) h = rw h.0 (equal-greatest n row h.1 h.2)
+
+some-value : (row : Option Value) → is_some row ≡ true → (v : Value) × (row ≡ Some v)
+some-value None s = absurd (false≢true s)
+some-value (Some v) s = (v, refl)
+
+-- the rows at the extreme places, of the type without nulls, are the extreme values
+pub are-extremes : (c : Column) (min max : TypedRow) (i j : ℕ) → LeastOf c.rows (length c.rows) i → GreatestOf c.rows (length c.rows) j → min ≡ record { dtype = full_form c.dtype; value = get_or c.rows i None } → max ≡ record { dtype = full_form c.dtype; value = get_or c.rows j None } → AreExtremes c min max
+are-extremes c min max i j h k p q =
+    let v = some-value (get_or c.rows i None) h.some in
+    let w = some-value (get_or c.rows j None) k.some in
+    record {
+      min_type = ap (λ s. s.dtype) p;
+      max_type = ap (λ s. s.dtype) q;
+      least = (v.0, ap (λ s. s.value) p ∙ v.1, least-value c.rows i v.0 h v.1);
+      greatest = (w.0, ap (λ s. s.value) q ∙ w.1, greatest-value c.rows j w.0 k w.1);
+    }

@@ -1,0 +1,4 @@
+pub mod InOrder
+pub mod Extremes
+pub mod Asked
+pub mod Standing

@@ -1,0 +1,75 @@
+-- Matching some suffix of a text.
+use Rattle.std.proofs.Common.{◌≡◌, ◌∙◌, sym, refl, ap, ℕ, List, [], ◌∷◌, Bool, true, false, ◌||◌, ◌&&◌}
+use Rattle.vortex_types.specs.Matches.{some_suffix, first_then}
+use Rattle.vortex_predicates.specs.declared.like.Element.{Element}
+use Rattle.vortex_predicates.specs.declared.like.Element.TheVariants.{AnyRun, AnyOne, Exactly}
+use Rattle.vortex_predicates.specs.Outcomes.{asks, passes}
+
+-- what follows from each of two follows from either
+either : (a b x : Bool) → (a ≡ true → x ≡ true) → (b ≡ true → x ≡ true) → (a || b) ≡ true → x ≡ true
+either true b x f g e = f refl
+either false b x f g e = g e
+
+-- the second is enough for either
+later : (a b : Bool) → b ≡ true → (a || b) ≡ true
+later true b e = refl
+later false b e = e
+
+-- of both the second holds
+second : (a b : Bool) → (a && b) ≡ true → b ≡ true
+second true b e = e
+second false b e = cc
+
+-- two truths that follow from one another are one
+pub same : (a b : Bool) → (a ≡ true → b ≡ true) → (b ≡ true → a ≡ true) → a ≡ b
+same true b f g = sym (f refl)
+same false true f g = g refl
+same false false f g = refl
+
+-- what the whole text passes, some suffix does
+pub suffix-whole : (f : List ℕ → Bool) (text : List ℕ) → f text ≡ true → some_suffix f text ≡ true
+suffix-whole f [] e = e
+suffix-whole f (c ∷ text) e = ap (λ b. b || some_suffix f text) e
+
+-- where the first character is out, some suffix passes only behind it
+pub suffix-behind : (f : List ℕ → Bool) (c : ℕ) (text : List ℕ) → f (c ∷ text) ≡ false → some_suffix f (c ∷ text) ≡ some_suffix f text
+suffix-behind f c text e = ap (λ b. b || some_suffix f text) e
+
+-- a suffix that passes one character and then the rest has that rest behind its first character
+tail-suffix : (f g : List ℕ → Bool) (test : ℕ → Bool) → ((t : List ℕ) → f t ≡ first_then test g t) → (c : ℕ) (t : List ℕ)
+    → some_suffix f (c ∷ t) ≡ true → some_suffix g t ≡ true
+tail-suffix f g test h c [] e =
+    either (f (c ∷ [])) (f []) (g []) (λ k. second (test c) (g []) (sym (h (c ∷ [])) ∙ k)) (λ k. let x : false ≡ true = sym (h []) ∙ k in cc) e
+tail-suffix f g test h c (d ∷ t) e =
+    either (f (c ∷ d ∷ t)) (some_suffix f (d ∷ t)) (some_suffix g (d ∷ t))
+    (λ k. suffix-whole g (d ∷ t) (second (test c) (g (d ∷ t)) (sym (h (c ∷ d ∷ t)) ∙ k)))
+    (λ k. later (g (d ∷ t)) (some_suffix g t) (tail-suffix f g test h d t k)) e
+
+-- a suffix of a suffix is one
+pub suffix-twice : (f g : List ℕ → Bool) → ((t : List ℕ) → f t ≡ some_suffix g t) → (t : List ℕ) → some_suffix f t ≡ true → some_suffix g t ≡ true
+suffix-twice f g h [] e = sym (h []) ∙ e
+suffix-twice f g h (c ∷ t) e =
+    either (f (c ∷ t)) (some_suffix f t) (some_suffix g (c ∷ t)) (λ k. sym (h (c ∷ t)) ∙ k) (λ k. later (g (c ∷ t)) (some_suffix g t) (suffix-twice f g h t k)) e
+
+-- an element that takes a character asks for just one
+asks-one : (el : Element) (c : ℕ) → passes el c ≡ true → (g : List ℕ → Bool) (t : List ℕ) → asks el g t ≡ first_then (passes el) g t
+asks-one AnyRun c e g t = cc
+asks-one AnyOne c e g t = refl
+asks-one (Exactly wanted) c e g t = refl
+
+-- f is the whole pattern and k what is left of it, whose first element is el, before g; the whole text and what is left of it
+module _ (f k g : List ℕ → Bool) (el : Element) (whole left : List ℕ) (asked : (t : List ℕ) → k t ≡ asks el g t) where
+  -- one character more is matched
+  pub step-here : (c : ℕ) (rest : List ℕ) → passes el c ≡ true → left ≡ c ∷ rest → f whole ≡ k left → f whole ≡ g rest
+  step-here c rest p s h = h ∙ ap k s ∙ asked (c ∷ rest) ∙ asks-one el c p g (c ∷ rest) ∙ ap (λ b. b && g rest) p
+
+  -- and no later place of the text has more to offer
+  pub step-later : (c : ℕ) (rest : List ℕ) → passes el c ≡ true → left ≡ c ∷ rest → (some_suffix f whole ≡ true → some_suffix k left ≡ true)
+      → some_suffix f whole ≡ true → some_suffix g rest ≡ true
+  step-later c rest p s h x = tail-suffix k g (passes el) (λ t. asked t ∙ asks-one el c p g t) c rest (ap (some_suffix k) (sym s) ∙ h x)
+
+  -- a run is reached: the first place where the pattern matches decides for all
+  pub run-later : el ≡ AnyRun → f whole ≡ k left → (some_suffix f whole ≡ true → some_suffix k left ≡ true) → some_suffix f whole ≡ some_suffix g left
+  run-later i h l =
+      let e : (t : List ℕ) → k t ≡ some_suffix g t = λ t. asked t ∙ ap (λ z. asks z g t) i in
+      same _ _ (λ x. suffix-twice k g e left (l x)) (λ x. suffix-whole f whole (h ∙ e left ∙ x))

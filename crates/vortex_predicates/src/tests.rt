@@ -1,0 +1,3 @@
+// Worked cases.
+mod patterns;
+mod values;

@@ -1,0 +1,7 @@
+pub mod Kept
+pub mod Slices
+pub mod Taken
+pub mod KeptWords
+pub mod Pieces
+pub mod Ordered
+pub mod PackedBits

@@ -1,0 +1,2 @@
+pub mod UnknownNames
+pub mod Bounds

@@ -1,0 +1,11 @@
+pub mod Digits
+pub mod Row
+pub mod Widths
+pub mod Order
+pub mod Matches
+pub mod Truth
+pub mod Cells
+pub mod Typed
+pub mod Seen
+pub mod SameNumber
+pub mod Checked

@@ -1,0 +1,5 @@
+// Worked cases.
+mod filters;
+mod scalars;
+mod types;
+mod widths;

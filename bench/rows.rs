@@ -1,4 +1,6 @@
 // Times the row operations of `vortex_rows` beside stock Rust loops of the same job. Built and run by `bench/rows`.
+mod memory;
+
 use std::hint::black_box;
 use std::time::Instant;
 
@@ -6,36 +8,6 @@ extern "C" {
     fn bench_filter(values: *const u64, len: usize, words: *const u64, words_len: usize, last: *mut u64) -> usize;
     fn bench_take(values: *const u64, len: usize, places: *const usize, places_len: usize, last: *mut u64) -> usize;
     fn bench_slice(values: *const u64, len: usize, start: usize, end: usize, last: *mut u64) -> usize;
-}
-
-// The memory that the library asks for comes from where the stock loops' comes from, the C library.
-extern "C" {
-    fn malloc(size: usize) -> *mut u8;
-    fn realloc(block: *mut u8, size: usize) -> *mut u8;
-    fn free(block: *mut u8);
-}
-
-#[repr(C)]
-pub struct Tried {
-    ok: bool,
-    block: *mut u8,
-}
-
-#[no_mangle]
-pub unsafe extern "C" fn rattle_alloc(size: usize, _align: usize) -> Tried {
-    let block = malloc(size);
-    Tried { ok: !block.is_null(), block }
-}
-
-#[no_mangle]
-pub unsafe extern "C" fn rattle_realloc(block: *mut u8, _kept: usize, size: usize, _align: usize) -> Tried {
-    let block = realloc(block, size);
-    Tried { ok: !block.is_null(), block }
-}
-
-#[no_mangle]
-pub unsafe extern "C" fn rattle_dealloc(block: *mut u8) {
-    free(block);
 }
 
 const ROWS: usize = 10_000_000;

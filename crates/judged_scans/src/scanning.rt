@@ -7,7 +7,10 @@ ghost use Rattle.vortex_table.specs.Table.{FitsPartition};
 use crate::cases::{U64, cells, compare, filtered, one_column, scope};
 use std::alloc::{AllocError, Global};
 use std::test::Fail;
-use vortex_array::{Array, ColumnDesc, CompareOperator, PrimitiveArray, PrimitiveBuffer, Validity};
+use vortex_array::{
+    Array, ColumnDesc, CompareOperator, ConstantArray, PrimitiveArray, PrimitiveBuffer, Scalar,
+    Validity, Value,
+};
 use vortex_buffer::{Buffer, Items};
 use vortex_io::{Arrive, MemorySource, Order};
 use vortex_judge::{
@@ -19,10 +22,20 @@ use vortex_table::{
     Table, scan_table,
 };
 
-// A table of the one column `a`: how many partitions it has, all alike, how many splits each of them has, and the
-// rows of each, as the numbers of their splits and their values.
+// How a source keeps the numbers of a split.
+#[derive(Clone, Copy)]
+enum Kept {
+    // Each by itself.
+    Numbers,
+    // As equal rows of the first of them, which all of them are.
+    EqualRows,
+}
+
+// A table of the one column `a`: how its splits are kept, how many partitions it has, all alike, how many splits each of
+// them has, and the rows of each, as the numbers of their splits and their values.
 #[derive(Clone, Copy)]
 struct Stored<'a> {
+    kept: Kept,
     partitions: u64,
     splits: u64,
     rows: &'a [(u64, u64)],
@@ -33,24 +46,28 @@ const HALF: u64 = 9223372036854775808;
 const LAST: u64 = 18446744073709551615;
 
 const NO_PARTITION: Stored = Stored {
+    kept: Kept::Numbers,
     partitions: 0,
     splits: 0,
     rows: &[],
 };
 
 const NO_SPLIT: Stored = Stored {
+    kept: Kept::Numbers,
     partitions: 1,
     splits: 0,
     rows: &[],
 };
 
 const ONE_SPLIT: Stored = Stored {
+    kept: Kept::Numbers,
     partitions: 1,
     splits: 1,
     rows: &[(0, LAST), (0, 0), (0, HALF), (0, 1), (0, 0)],
 };
 
 const UNEVEN_SPLITS: Stored = Stored {
+    kept: Kept::Numbers,
     partitions: 1,
     splits: 6,
     rows: &[
@@ -64,7 +81,15 @@ const UNEVEN_SPLITS: Stored = Stored {
     ],
 };
 
+const SPLITS_OF_EQUAL_ROWS: Stored = Stored {
+    kept: Kept::EqualRows,
+    partitions: 1,
+    splits: 4,
+    rows: &[(0, 1), (0, 1), (0, 1), (2, LAST), (3, 0), (3, 0)],
+};
+
 const TWO_PARTITIONS: Stored = Stored {
+    kept: Kept::Numbers,
     partitions: 2,
     splits: 1,
     rows: &[(0, 1)],
@@ -114,10 +139,11 @@ impl<'a> Stored<'a> {
     }
 
     fn chunk(&self, alloc: Global, split: u64) -> Result<Chunk, Fail> {
-        let numbers = Buffer::from_vec(self.numbers(alloc, split)?);
-        let values = PrimitiveBuffer::U64(numbers);
-        let array = PrimitiveArray::try_new(values, Validity::NonNullable)?;
-        Ok(Chunk::Plain(Array::Primitive(array)))
+        let numbers = self.numbers(alloc, split)?;
+        match (self.kept, numbers.first()) {
+            (Kept::EqualRows, Some(number)) => equal_chunk(*number, numbers.len()),
+            _ => number_chunk(numbers),
+        }
     }
 
     fn one_chunk(&self, alloc: Global, split: u64) -> Result<Vec<Chunk>, Fail> {
@@ -155,6 +181,17 @@ impl<'a> Stored<'a> {
         }
         Ok(contents)
     }
+}
+
+fn number_chunk(numbers: Vec<u64>) -> Result<Chunk, Fail> {
+    let values = PrimitiveBuffer::U64(Buffer::from_vec(numbers));
+    let array = PrimitiveArray::try_new(values, Validity::NonNullable)?;
+    Ok(Chunk::Plain(Array::Primitive(array)))
+}
+
+fn equal_chunk(number: u64, len: usize) -> Result<Chunk, Fail> {
+    let scalar = Scalar::try_new(U64, Some(Value::Int(number as i128)))?;
+    Ok(Chunk::Plain(Array::Constant(ConstantArray::new(scalar, len))))
 }
 
 fn signed(alloc: Global, numbers: &[u64]) -> Result<Vec<i128>, AllocError> {
@@ -480,6 +517,7 @@ fn scans_answer(rt: HostRuntime) -> Result<(), Fail> {
             ("no split", NO_SPLIT),
             ("one split", ONE_SPLIT),
             ("uneven splits", UNEVEN_SPLITS),
+            ("splits of equal rows", SPLITS_OF_EQUAL_ROWS),
         ] {
             assert!(rt; all_are_answered(alloc, &stored, ordered)?, "{case}");
         }

@@ -30,12 +30,16 @@ use Rattle.vortex_comparisons.specs.Repeated.{repeated}
 pub length-compared : (operator : CompareOperator) (a b : Column) → length a.rows ≡ length b.rows → length (compared operator a b).rows ≡ length a.rows
 length-compared operator a b e = length-map (zip2 (both (compares operator)) a.rows b.rows) truth_row ∙ length-zip2 (both (compares operator)) a.rows b.rows e
 
+-- row by row, what a test says of two values, and null where a row is null
+abbrev tested : (Value → Value → Bool) → Column → Column → Column
+tested test a b = truths (either_column a b) (zip2 (both test) a.rows b.rows)
+
 -- a constant that is a value
-pub constant-some : (operator : CompareOperator) (a : Column) (k : ConstantParts) (v : Value) → Some v ≡ k.scalar.value → length a.rows ≡ length (constant_column k).rows
-    → compared operator a (repeated k.scalar.dtype v (length a.rows)) ≡ compared operator a (constant_column k)
-constant-some operator a k v is e =
-    ap (λ n. compared operator a (repeated k.scalar.dtype v n)) (e ∙ length-replicate k.len k.scalar.value)
-    ∙ ap (λ r. compared operator a (column k.scalar.dtype (replicate k.len r))) is
+pub constant-some : (test : Value → Value → Bool) (a : Column) (k : ConstantParts) (v : Value) → Some v ≡ k.scalar.value → length a.rows ≡ length (constant_column k).rows
+    → tested test a (repeated k.scalar.dtype v (length a.rows)) ≡ tested test a (constant_column k)
+constant-some test a k v is e =
+    ap (λ n. tested test a (repeated k.scalar.dtype v n)) (e ∙ length-replicate k.len k.scalar.value)
+    ∙ ap (λ r. tested test a (column k.scalar.dtype (replicate k.len r))) is
 
 nullable_is : (n : Nullability) (t : DType) → nullability t ≡ n → IsTrue (is_nullable t) → nullability t ≡ nulls.Nullable
 nullable_is nulls.Nullable t e h = e
@@ -47,40 +51,65 @@ null_right test (None ∷ xs) = ap (λ rest. None ∷ rest) (null_right test xs)
 null_right test (Some x ∷ xs) = ap (λ rest. None ∷ rest) (null_right test xs)
 
 -- a constant that is null
-pub constant-null : (operator : CompareOperator) (a : Column) (k : ConstantParts) → None ≡ k.scalar.value → IsTrue (fits_type k.scalar.dtype k.scalar.value) → length a.rows ≡ length (constant_column k).rows
-    → truths nulls.Nullable (replicate k.len None) ≡ compared operator a (constant_column k)
-constant-null operator a k is fits e =
+pub constant-null : (test : Value → Value → Bool) (a : Column) (k : ConstantParts) → None ≡ k.scalar.value → IsTrue (fits_type k.scalar.dtype k.scalar.value) → length a.rows ≡ length (constant_column k).rows
+    → truths nulls.Nullable (replicate k.len None) ≡ tested test a (constant_column k)
+constant-null test a k is fits e =
     let n : length a.rows ≡ k.len = e ∙ length-replicate k.len k.scalar.value in
     let nullable : IsTrue (is_nullable k.scalar.dtype) = rw (sym is) at fits in
     let kind : nullability k.scalar.dtype ≡ nulls.Nullable = nullable_is (nullability k.scalar.dtype) k.scalar.dtype refl nullable in
     ap (λ m. truths m (replicate k.len None)) (either_nullable (nullability a.dtype) ∙ ap (either (nullability a.dtype)) (sym kind))
     ∙ ap (λ m. truths (either_column a (constant_column k)) (replicate m None)) (sym n)
-    ∙ ap (truths (either_column a (constant_column k))) (sym (null_right (compares operator) a.rows) ∙ sym (zip2_splat (both (compares operator)) a.rows k.len None n))
-    ∙ ap (λ r. truths (either_column a (constant_column k)) (zip2 (both (compares operator)) a.rows (replicate k.len r))) is
+    ∙ ap (truths (either_column a (constant_column k))) (sym (null_right test a.rows) ∙ sym (zip2_splat (both test) a.rows k.len None n))
+    ∙ ap (λ r. truths (either_column a (constant_column k)) (zip2 (both test) a.rows (replicate k.len r))) is
+
+-- a first constant that is a value
+pub first-some : (test : Value → Value → Bool) (k : ConstantParts) (b : Column) (n : Nullability) (v : Value) → n ≡ nullability k.scalar.dtype → Some v ≡ k.scalar.value → length (constant_column k).rows ≡ length b.rows
+    → truths (either n (nullability b.dtype)) (zip2 (both test) (replicate (length b.rows) (Some v)) b.rows) ≡ tested test (constant_column k) b
+first-some test k b n v kind is e =
+    ap (λ m. truths (either m (nullability b.dtype)) (zip2 (both test) (replicate (length b.rows) (Some v)) b.rows)) kind
+    ∙ ap (λ m. truths (either_column (constant_column k) b) (zip2 (both test) (replicate m (Some v)) b.rows)) (sym e ∙ length-replicate k.len k.scalar.value)
+    ∙ ap (λ r. truths (either_column (constant_column k) b) (zip2 (both test) (replicate k.len r) b.rows)) is
+
+null_left : (test : Value → Value → Bool) (ys : List (Option Value)) → zip2 (both test) (replicate (length ys) None) ys ≡ replicate (length ys) None
+null_left test [] = refl
+null_left test (y ∷ ys) = ap (λ rest. None ∷ rest) (null_left test ys)
+
+-- a first constant that is null
+pub first-null : (test : Value → Value → Bool) (k : ConstantParts) (b : Column) → None ≡ k.scalar.value → IsTrue (fits_type k.scalar.dtype k.scalar.value) → length (constant_column k).rows ≡ length b.rows
+    → truths nulls.Nullable (replicate k.len None) ≡ tested test (constant_column k) b
+first-null test k b is fits e =
+    let n : length b.rows ≡ k.len = sym e ∙ length-replicate k.len k.scalar.value in
+    let nullable : IsTrue (is_nullable k.scalar.dtype) = rw (sym is) at fits in
+    let kind : nullability k.scalar.dtype ≡ nulls.Nullable = nullable_is (nullability k.scalar.dtype) k.scalar.dtype refl nullable in
+    ap (λ m. truths (either m (nullability b.dtype)) (replicate k.len None)) (sym kind)
+    ∙ ap (λ m. truths (either_column (constant_column k) b) (replicate m None)) (sym n)
+    ∙ ap (truths (either_column (constant_column k) b)) (sym (null_left test b.rows))
+    ∙ ap (λ m. truths (either_column (constant_column k) b) (zip2 (both test) (replicate m None) b.rows)) n
+    ∙ ap (λ r. truths (either_column (constant_column k) b) (zip2 (both test) (replicate k.len r) b.rows)) is
 
 equal_pairs : {X Y Z : Type 0} (f : X → Y → Z) (n : ℕ) (x : X) (y : Y) → zip2 f (replicate n x) (replicate n y) ≡ replicate n (f x y)
 equal_pairs f zero x y = refl
 equal_pairs f (suc n) x y = ap (λ rest. f x y ∷ rest) (equal_pairs f n x y)
 
 -- equal rows of a value beside one value in each row
-pub equal-some : (operator : CompareOperator) (k : ConstantParts) (t : DType) (own v : Value) → Some own ≡ k.scalar.value
-    → truths (either (nullability k.scalar.dtype) (nullability t)) (replicate k.len (Some (compares operator own v))) ≡ compared operator (constant_column k) (repeated t v (length (constant_column k).rows))
-equal-some operator k t own v is =
+pub equal-some : (test : Value → Value → Bool) (k : ConstantParts) (t : DType) (own v : Value) → Some own ≡ k.scalar.value
+    → truths (either (nullability k.scalar.dtype) (nullability t)) (replicate k.len (Some (test own v))) ≡ tested test (constant_column k) (repeated t v (length (constant_column k).rows))
+equal-some test k t own v is =
     let kind = either (nullability k.scalar.dtype) (nullability t) in
-    ap (truths kind) (sym (equal_pairs (both (compares operator)) k.len (Some own) (Some v)))
-    ∙ ap (λ r. truths kind (zip2 (both (compares operator)) (replicate k.len r) (replicate k.len (Some v)))) is
-    ∙ ap (λ n. truths kind (zip2 (both (compares operator)) (replicate k.len k.scalar.value) (replicate n (Some v)))) (sym (length-replicate k.len k.scalar.value))
+    ap (truths kind) (sym (equal_pairs (both test) k.len (Some own) (Some v)))
+    ∙ ap (λ r. truths kind (zip2 (both test) (replicate k.len r) (replicate k.len (Some v)))) is
+    ∙ ap (λ n. truths kind (zip2 (both test) (replicate k.len k.scalar.value) (replicate n (Some v)))) (sym (length-replicate k.len k.scalar.value))
 
 -- equal rows of null beside one value in each row
-pub equal-null : (operator : CompareOperator) (k : ConstantParts) (t : DType) (v : Value) → None ≡ k.scalar.value → IsTrue (fits_type k.scalar.dtype k.scalar.value)
-    → truths nulls.Nullable (replicate k.len None) ≡ compared operator (constant_column k) (repeated t v (length (constant_column k).rows))
-equal-null operator k t v is fits =
+pub equal-null : (test : Value → Value → Bool) (k : ConstantParts) (t : DType) (v : Value) → None ≡ k.scalar.value → IsTrue (fits_type k.scalar.dtype k.scalar.value)
+    → truths nulls.Nullable (replicate k.len None) ≡ tested test (constant_column k) (repeated t v (length (constant_column k).rows))
+equal-null test k t v is fits =
     let nullable : IsTrue (is_nullable k.scalar.dtype) = rw (sym is) at fits in
     let kind : nullability k.scalar.dtype ≡ nulls.Nullable = nullable_is (nullability k.scalar.dtype) k.scalar.dtype refl nullable in
     ap (λ m. truths (either m (nullability t)) (replicate k.len None)) (sym kind)
-    ∙ ap (truths (either (nullability k.scalar.dtype) (nullability t))) (sym (equal_pairs (both (compares operator)) k.len None (Some v)))
-    ∙ ap (λ r. truths (either (nullability k.scalar.dtype) (nullability t)) (zip2 (both (compares operator)) (replicate k.len r) (replicate k.len (Some v)))) is
-    ∙ ap (λ n. truths (either (nullability k.scalar.dtype) (nullability t)) (zip2 (both (compares operator)) (replicate k.len k.scalar.value) (replicate n (Some v)))) (sym (length-replicate k.len k.scalar.value))
+    ∙ ap (truths (either (nullability k.scalar.dtype) (nullability t))) (sym (equal_pairs (both test) k.len None (Some v)))
+    ∙ ap (λ r. truths (either (nullability k.scalar.dtype) (nullability t)) (zip2 (both test) (replicate k.len r) (replicate k.len (Some v)))) is
+    ∙ ap (λ n. truths (either (nullability k.scalar.dtype) (nullability t)) (zip2 (both test) (replicate k.len k.scalar.value) (replicate n (Some v)))) (sym (length-replicate k.len k.scalar.value))
 
 between_row : (options : BetweenOptions) (x y z : Option Value) → both_true (both (compares (lower_operator options.lower_strict)) x y) (both (compares (upper_operator options.upper_strict)) x z) ≡ all_three (lies_between options) x y z
 between_row options None y z = refl

@@ -14,12 +14,12 @@ use Rattle.vortex_types.specs.declared.scalar.Value.TheVariants as value
 use Rattle.vortex_rows.specs.Taken.{SetPlacesBelow, taken_or}
 use Rattle.vortex_columns.specs.Kinds.{constant_column}
 use Rattle.vortex_columns.specs.Validities.{is_as_long, nullability_of, rows_under}
-use Rattle.vortex_columns.specs.Selected.{IndexBelow, is_index_type, row_at, taken}
-use Rattle.vortex_columns.specs.SelectedParts.{PlacesBelow, index_column}
+use Rattle.vortex_selections.specs.Selected.{IndexBelow, is_index_type, row_at, taken}
+use Rattle.vortex_selections.specs.SelectedParts.{PlacesBelow, index_column}
 use Rattle.vortex_columns.specs.declared.validity.Validity.{Validity}
 use Rattle.vortex_columns.specs.declared.validity.Validity.TheVariants.{NonNullable, AllValid, AllInvalid, Bits}
-use Rattle.vortex_columns.proofs.SelectedRows.{column_with, same-column}
-use Rattle.vortex_columns.proofs.TakenRows.{at_nulls, at_places, at_set, index_rows, places-below}
+use Rattle.vortex_selections.proofs.SelectedRows.{column_with, same-column}
+use Rattle.vortex_selections.proofs.TakenRows.{at_nulls, at_places, at_set, index_rows, places-below}
 use Rattle.vortex_array.specs.Index.{nulls_of_index, number_column, place_of, place_of_index}
 
 -- places as numbers are the numbers of places

@@ -16,11 +16,11 @@ use std::alloc::{AllocError, Global};
 use vortex_columns::{BoolArray, ConstantArray, DecimalArray, PrimitiveArray, VarBinViewArray};
 use vortex_comparisons::{
     compare_decimal_value, compare_decimals, compare_list_value, compare_lists,
-    compare_number_value, compare_numbers, compare_truth_value, compare_truths, compare_values,
-    equal_answers, null_answers, turned_operator,
+    compare_number_value, compare_numbers, compare_truth_value, compare_truths, equal_answers,
+    null_answers, turned_operator,
 };
 use vortex_types::{
-    BetweenOptions, CompareOperator, DType, Nullability, StrictComparison, ValueRef,
+    BetweenOptions, CompareOperator, DType, Nullability, StrictComparison, ValueRef, compares,
 };
 
 impl Array {
@@ -249,7 +249,7 @@ fn compare_equal_rows(
     match left.scalar().value_ref() {
         Some(own) => {
             let nullability = either_nullability(left.dtype(), dtype);
-            let answer = compare_values(operator, own, value);
+            let answer = compares(operator, own, value);
             equal_answers(alloc, answer, nullability, left.len())
         }
         None => null_answers(alloc, left.len()),
@@ -257,7 +257,7 @@ fn compare_equal_rows(
 }
 
 // Nullable where one of two types is.
-fn either_nullability(a: DType, b: DType) -> Nullability
+pub(crate) fn either_nullability(a: DType, b: DType) -> Nullability
     ensures { result ≡ either (nullability a) (nullability b) }
 {
     if a.is_nullable() || b.is_nullable() {

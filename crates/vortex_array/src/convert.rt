@@ -22,11 +22,11 @@ impl Array {
         ensures err { IfErr result (RefusesCast dtype.now (column_of self.now)) }
     {
         match self {
-            Array::Bool(array) => cast_bools(array, alloc, dtype).map(Array::Bool),
-            Array::Primitive(array) => cast_primitive(array, alloc, dtype).map(Array::Primitive),
-            Array::Decimal(array) => cast_decimals(array, alloc, dtype).map(Array::Decimal),
-            Array::VarBinView(array) => cast_texts(array, alloc, dtype).map(Array::VarBinView),
-            Array::Constant(array) => cast_constant(array, alloc, dtype).map(Array::Constant),
+            Array::Bool(array) => cast_bools(alloc, array, dtype).map(Array::Bool),
+            Array::Primitive(array) => cast_primitive(alloc, array, dtype).map(Array::Primitive),
+            Array::Decimal(array) => cast_decimals(alloc, array, dtype).map(Array::Decimal),
+            Array::VarBinView(array) => cast_texts(alloc, array, dtype).map(Array::VarBinView),
+            Array::Constant(array) => cast_constant(alloc, array, dtype).map(Array::Constant),
         }
     }
 }

@@ -6,6 +6,9 @@ mod arrays;
 mod batch;
 mod compare;
 mod convert;
+mod fill;
+mod indices;
+mod like;
 mod min_max;
 mod orders;
 mod select;
@@ -20,11 +23,9 @@ pub use vortex_columns::{
     BoolArray, ConstantArray, DecimalArray, DecimalBuffer, DecimalValue, LengthMismatch,
     PrimitiveArray, PrimitiveBuffer, PushError, Validity, VarBinViewArray, VarBinViewBuilder,
 };
+pub use vortex_selections::{Select, Take};
 pub use vortex_types::{
     BadPrecision, BetweenOptions, Bytes, CodeType, ColumnDesc, CompareOperator, DType,
     DecimalDType, Filter, FilterError, Name, NativeValue, Nullability, Operand, PType, Scalar,
-    StrictComparison, Text, Value, ValueRef, WrongType,
+    StrictComparison, Text, Value, ValueRef, WrongType, accepts, compares,
 };
-
-#[cfg(test)]
-mod tests;

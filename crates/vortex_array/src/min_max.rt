@@ -2,16 +2,18 @@
 ghost use Rattle.std.specs.Prelude.{◌≡◌, ◌<◌, IsTrue, IfOk, MatchOption, None, Some, is_some, length, slice_index_or};
 ghost use Rattle.vortex_types.specs.Row.{value_fits};
 ghost use Rattle.vortex_types.specs.Seen.{value_seen};
+ghost use Rattle.vortex_types.specs.Widths.{full_form};
 ghost use Rattle.vortex_array.specs.ColumnOf.{column_of};
-ghost use Rattle.vortex_extremes.specs.Asked.{ExtremePlace};
-ghost use Rattle.vortex_extremes.specs.Extremes.{AreExtremes, GreatestOf, HasNoValue, LeastOf, full_form};
+ghost use Rattle.vortex_extremes.specs.Asked.{ExtremesBelow};
+ghost use Rattle.vortex_extremes.specs.Extremes.{AreExtremes, GreatestOf, HasNoValue, LeastOf};
 
 use crate::arrays::Array;
 use std::alloc::{AllocError, Global};
 use vortex_extremes::{
-    Extreme, bools_place, decimals_place, equal_rows_place, numbers_place, texts_place,
+    ExtremePlaces, decimal_extremes, equal_rows_extremes, number_extremes, text_extremes,
+    truth_extremes,
 };
-use vortex_types::{DType, Nullability, Scalar, ValueRef};
+use vortex_types::{DType, Scalar, ValueRef};
 
 /// The least and the greatest value of a column, of its type without nulls.
 #[derive(Drop)]
@@ -22,30 +24,17 @@ pub struct MinMax {
     pub max: Scalar,
 }
 
-// The same type, without nulls.
-fn without_nulls(dtype: DType) -> DType
-    ensures { result ≡ full_form dtype }
-{
-    match dtype {
-        DType::Bool(_) => DType::Bool(Nullability::NonNullable),
-        DType::Primitive(width, _) => DType::Primitive(width, Nullability::NonNullable),
-        DType::Decimal(digits, _) => DType::Decimal(digits, Nullability::NonNullable),
-        DType::Utf8(_) => DType::Utf8(Nullability::NonNullable),
-        DType::Binary(_) => DType::Binary(Nullability::NonNullable),
-    }
-}
-
 impl Array {
-    // The place of an extreme value, or none where no row is a value.
-    fn extreme_place(&self, extreme: Extreme) -> Option<usize>
-        ensures { ExtremePlace extreme (column_of self.now).rows result }
+    // The places of the least and of the greatest value, or none where no row is a value.
+    fn extreme_places(&self) -> Option<ExtremePlaces>
+        ensures { ExtremesBelow (column_of self.now).rows (length (column_of self.now).rows) result }
     {
         match self {
-            Array::Bool(array) => bools_place(array, extreme),
-            Array::Primitive(array) => numbers_place(array, extreme),
-            Array::Decimal(array) => decimals_place(array, extreme),
-            Array::VarBinView(array) => texts_place(array, extreme),
-            Array::Constant(array) => equal_rows_place(array, extreme),
+            Array::Bool(array) => truth_extremes(array),
+            Array::Primitive(array) => number_extremes(array),
+            Array::Decimal(array) => decimal_extremes(array),
+            Array::VarBinView(array) => text_extremes(array),
+            Array::Constant(array) => equal_rows_extremes(array),
         }
     }
 
@@ -72,27 +61,16 @@ impl Array {
         Ok(MinMax { min, max })
     }
 
-    // The least value, at this place, and the greatest one.
-    fn min_max_from(&self, alloc: Global, least: usize) -> Result<Option<MinMax>, AllocError>
-        requires { LeastOf (column_of self.now).rows (length (column_of self.now).rows) least }
-        ensures { IfOk result (λ found. MatchOption found (HasNoValue (column_of self.now).rows) (λ m. AreExtremes (column_of self.now) m.min m.max)) }
-    {
-        match self.extreme_place(Extreme::Greatest) {
-            None => Ok(None),
-            Some(greatest) => match self.min_max_at(alloc, least, greatest) {
-                Ok(found) => Ok(Some(found)),
-                Err(error) => Err(error),
-            },
-        }
-    }
-
     /// The least and the greatest value, of the type without nulls, or none exactly where no row is a value.
     pub fn min_max(&self, alloc: Global) -> Result<Option<MinMax>, AllocError>
         ensures { IfOk result (λ found. MatchOption found (HasNoValue (column_of self.now).rows) (λ m. AreExtremes (column_of self.now) m.min m.max)) }
     {
-        match self.extreme_place(Extreme::Least) {
+        match self.extreme_places() {
             None => Ok(None),
-            Some(least) => self.min_max_from(alloc, least),
+            Some(places) => match self.min_max_at(alloc, places.least, places.greatest) {
+                Ok(found) => Ok(Some(found)),
+                Err(error) => Err(error),
+            },
         }
     }
 }
@@ -103,7 +81,7 @@ fn full_scalar(alloc: Global, dtype: DType, value: ValueRef<'_>) -> Result<Scala
     ensures { IfOk result (λ s. s ≡ record { dtype = full_form dtype; value = Some (value_seen value.entry) }) }
 {
     let value = value.to_value(alloc)?;
-    match Scalar::try_new(without_nulls(dtype), Some(value)) {
+    match Scalar::try_new(dtype.into_non_nullable(), Some(value)) {
         Ok(scalar) => Ok(scalar),
         Err(_) => unreachable!(),
     }

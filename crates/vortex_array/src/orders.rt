@@ -5,7 +5,7 @@ ghost use Rattle.vortex_extremes.specs.Asked.{Holds};
 ghost use Rattle.vortex_extremes.specs.InOrder.{IsConstant, IsSorted, IsStrictlySorted};
 
 use crate::arrays::Array;
-use vortex_extremes::{RowOrder, bools_are, decimals_are, equal_rows_are, numbers_are, texts_are};
+use vortex_extremes::{RowOrder, decimals_are, equal_rows_are, numbers_are, texts_are, truths_are};
 
 impl Array {
     // Whether the rows stand in the order that is asked for.
@@ -13,7 +13,7 @@ impl Array {
         ensures { IsTrue result ↔ Holds order (column_of self.now).rows }
     {
         match self {
-            Array::Bool(array) => bools_are(array, order),
+            Array::Bool(array) => truths_are(array, order),
             Array::Primitive(array) => numbers_are(array, order),
             Array::Decimal(array) => decimals_are(array, order),
             Array::VarBinView(array) => texts_are(array, order),

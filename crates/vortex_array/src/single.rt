@@ -68,7 +68,7 @@ fn one_truth(
 }
 
 // The truth value of a row.
-fn truth_in(row: Option<ValueRef<'_>>) -> bool
+pub(crate) fn truth_in(row: Option<ValueRef<'_>>) -> bool
     ensures { result ≡ truth_held (option_map value_seen row.entry) }
 {
     match row {
@@ -104,7 +104,7 @@ fn one_number(
 }
 
 // The whole number of a row.
-fn number_in(row: Option<ValueRef<'_>>) -> i128
+pub(crate) fn number_in(row: Option<ValueRef<'_>>) -> i128
     ensures { result ≡ number_held (option_map value_seen row.entry) }
 {
     match row {
@@ -194,7 +194,7 @@ fn one_decimal(
 }
 
 // The unscaled number of a row.
-fn unscaled_in(row: Option<ValueRef<'_>>) -> i128
+pub(crate) fn unscaled_in(row: Option<ValueRef<'_>>) -> i128
     ensures { result ≡ unscaled_held (option_map value_seen row.entry) }
 {
     match row {
@@ -227,7 +227,7 @@ fn one_text(alloc: Global, dtype: DType, row: Option<ValueRef<'_>>) -> Result<Ar
 }
 
 // The bytes of a row, of which those of a text are UTF-8.
-fn bytes_in<'a>(row: Option<ValueRef<'a>>) -> Option<&'a [u8]>
+pub(crate) fn bytes_in<'a>(row: Option<ValueRef<'a>>) -> Option<&'a [u8]>
     ensures bytes { option_copied result ≡ bytes_held (option_map value_seen row.entry) }
     ensures text { (text : List ℕ) → option_map value_seen row.entry ≡ Some (values.Utf8 text) → IsUtf8 text }
 {

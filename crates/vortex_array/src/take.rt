@@ -3,8 +3,8 @@ ghost use Rattle.std.specs.Prelude.{◌≡◌, All, IfOk, IsTrue, length, map, p
 ghost use Rattle.vortex_types.specs.Row.{fits_type, value_fits};
 ghost use Rattle.vortex_types.specs.Seen.{value_seen};
 ghost use Rattle.vortex_types.specs.declared.scalar.Value.TheVariants as values;
-ghost use Rattle.vortex_columns.specs.Selected.{IndexBelow, NamesRows, is_index_type, taken};
-ghost use Rattle.vortex_columns.specs.SelectedParts.{PlacesBelow, index_column};
+ghost use Rattle.vortex_selections.specs.Selected.{IndexBelow, NamesRows, is_index_type, taken};
+ghost use Rattle.vortex_selections.specs.SelectedParts.{PlacesBelow, index_column};
 ghost use Rattle.vortex_array.specs.ColumnOf.{column_of, constant_column, is_plain as is_plain_array, primitive_column};
 ghost use Rattle.vortex_array.specs.Index.{nulls_of_index, number_column, place_of_index};
 ghost use Rattle.vortex_columns.specs.Validities.{is_as_long};
@@ -15,6 +15,7 @@ use std::alloc::{AllocError, Global};
 use vortex_buffer::Buffer;
 use vortex_columns::{ConstantArray, PrimitiveArray, PrimitiveBuffer, Validity};
 use vortex_rows::Place;
+use vortex_selections::{Take, take_equal};
 use vortex_types::{DType, Scalar, ValueRef};
 
 impl Array {
@@ -109,7 +110,7 @@ fn take_at<P: Place>(
 }
 
 // The rows of a plain array at places.
-fn take_plain<P: Place>(
+pub(crate) fn take_plain<P: Place>(
     alloc: Global,
     array: &Array,
     places: &[P],
@@ -156,7 +157,7 @@ fn take_constant<P: Place>(
     if !nulls.has_none() {
         return take_one_row(alloc, array, places, nulls);
     }
-    match array.take(alloc, places, nulls) {
+    match take_equal(alloc, array, places, nulls) {
         Ok(part) => Ok(Array::Constant(part)),
         Err(e) => Err(e),
     }
@@ -180,7 +181,11 @@ fn take_one_row<P: Place>(
 }
 
 // So many equal places.
-fn equal_places<P: Place>(alloc: Global, place: P, len: usize) -> Result<Vec<P>, AllocError>
+pub(crate) fn equal_places<P: Place>(
+    alloc: Global,
+    place: P,
+    len: usize,
+) -> Result<Vec<P>, AllocError>
     ensures { IfOk result (λ places. places.items ≡ replicate len place) }
 {
     let mut places = Vec::with_capacity(alloc, len)?;

@@ -1,6 +1,7 @@
 -- Rows whose nulls are filled.
 use Rattle.std.proofs.Common.{ℕ, zero, suc, ◌<◌, ◌≡◌, ◌+◌, Bool, true, false, cond, List, [], ◌∷◌, ◌++◌, length, get_or, take, map, refl, sym, ap, ◌∙◌, arith, Option, Some, None}
 use Rattle.std.specs.Prelude.{IsTrue, replicate}
+use Rattle.std.specs.List.{AllZip}
 use Rattle.std.specs.Simd.Lanes.{zip2}
 use Rattle.std.proofs.lemmas.List.{ext_get_or, get_or_default, length-replicate, length-map, get_or-map, get_or-replicate}
 use Rattle.std.proofs.lemmas.Simd.{length-zip2, get_or-zip2}
@@ -115,3 +116,24 @@ map-filled f fill (x ∷ xs) (false ∷ present) = ap (λ ys. f fill ∷ ys) (ma
 pub filled-column : {X : Type 0} (K : Nullability → DType) (f : X → Value) (fill : X) (n : Nullability) (v : Validity) (xs ys : List X) (t : DType) → IsTrue (is_as_long v (length xs)) → ys ≡ filled_items fill xs (valid_bits v (length xs))
     → ◌≡◌ {A = Column} (record { dtype = K (nullability_of (full_validity n)); rows = rows_under (full_validity n) (map f ys) }) (filled (record { dtype = K n; value = Some (f fill) }) (record { dtype = t; rows = rows_under v (map f xs) }))
 filled-column K f fill n v xs ys t e same = rw (same, full-type n, filled-rows f fill n v xs e) refl
+
+-- without a null the items stay
+pub filled-all : {X : Type 0} (fill : X) (xs : List X) → filled_items fill xs (replicate (length xs) true) ≡ xs
+filled-all fill [] = refl
+filled-all fill (x ∷ xs) = ap (λ ys. x ∷ ys) (filled-all fill xs)
+
+-- what is written for each lane is the lane
+pub written-same : {X : Type 0} (P : X → X → Type 0) (xs ys : List X) → ((x y : X) → P x y → y ≡ x) → AllZip P xs ys → ys ≡ xs
+written-same P [] [] f h = refl
+written-same P [] (y ∷ ys) f h = absurd h
+written-same P (x ∷ xs) [] f h = absurd h
+written-same P (x ∷ xs) (y ∷ ys) f h = ap (λ z. z ∷ ys) (f x y h.0) ∙ ap (λ zs. x ∷ zs) (written-same P xs ys f h.1)
+
+-- as many items under as many bits
+pub length-under : {X : Type 0} (fill : X) (xs : List X) (bits : List Bool) → length bits ≡ length xs → length (filled_items fill xs bits) ≡ length xs
+length-under fill xs bits e = length-zip2 (λ x p. cond p x fill) xs bits (sym e)
+
+-- the item under a bit
+pub under-here : {X : Type 0} (fill : X) (xs : List X) (bits : List Bool) (i : ℕ) (x d : X) → length bits ≡ length xs → i < length xs → x ≡ cond (get_or bits i false) (get_or xs i d) fill
+    → x ≡ get_or (filled_items fill xs bits) i x
+under-here fill xs bits i x d e l h = filled-here fill (Bits bits) xs i x d ((Decides-eqb (length bits) (length xs)).1 e) l h

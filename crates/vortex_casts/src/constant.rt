@@ -14,8 +14,8 @@ use vortex_types::{Bytes, DType, Scalar, Text, Value};
 /// As many rows that are equal to the same row, of this type. It is refused exactly where the type cannot be cast to it,
 /// and at row 0 where there is one that does not fit.
 pub fn cast_constant(
-    array: &ConstantArray,
     alloc: Global,
+    array: &ConstantArray,
     dtype: &DType,
 ) -> Result<ConstantArray, CastError>
     ensures ok { IfOk result (λ a. constant_column a ≡ cast_column dtype.now (constant_column array.now)) }
@@ -31,7 +31,7 @@ pub fn cast_constant(
             Err(error) => Err(error),
         };
     }
-    match cast_scalar(array.scalar(), alloc, dtype) {
+    match cast_scalar(alloc, array.scalar(), dtype) {
         Ok(scalar) => Ok(ConstantArray::new(scalar, array.len())),
         Err(error) => Err(error),
     }
@@ -60,14 +60,14 @@ fn can_cast(from: &DType, to: &DType) -> bool
 }
 
 // The same value or null, of another type.
-fn cast_scalar(scalar: &Scalar, alloc: Global, dtype: &DType) -> Result<Scalar, CastError>
+fn cast_scalar(alloc: Global, scalar: &Scalar, dtype: &DType) -> Result<Scalar, CastError>
     ensures ok { IfOk result (λ s. s ≡ record { dtype = dtype.now; value = scalar.now.value }) }
     ensures fits { OnOk result (IsTrue (fits_type dtype.now scalar.now.value)) }
     ensures err { IfErr result (RefusesRow dtype.now scalar.now.value) }
 {
     match scalar.value() {
         None => cast_null(dtype),
-        Some(value) => cast_value(value, alloc, dtype),
+        Some(value) => cast_value(alloc, value, dtype),
     }
 }
 
@@ -84,7 +84,7 @@ fn cast_null(dtype: &DType) -> Result<Scalar, CastError>
 }
 
 // The value, of another type.
-fn cast_value(value: &Value, alloc: Global, dtype: &DType) -> Result<Scalar, CastError>
+fn cast_value(alloc: Global, value: &Value, dtype: &DType) -> Result<Scalar, CastError>
     ensures ok { IfOk result (λ s. s ≡ record { dtype = dtype.now; value = Some value.now }) }
     ensures fits { OnOk result (IsTrue (fits_type dtype.now (Some value.now))) }
     ensures err { IfErr result (RefusesRow dtype.now (Some value.now)) }

@@ -12,7 +12,7 @@ use vortex_buffer::{BitBuffer, Buffer};
 use vortex_columns::{
     BoolArray, DecimalArray, DecimalBuffer, DecimalValue, PrimitiveArray, PrimitiveBuffer, Validity,
 };
-use vortex_compute::{IndexedSource, collect_lane_bits};
+use vortex_compute::{IndexedSource, collect_lane_bits, map_into};
 use vortex_types::{NativeValue, Nullability};
 
 // The items, and the fill at the places that are not valid.
@@ -25,11 +25,55 @@ fn fill_items<T: Copy>(
     requires { IsTrue (is_as_long validity.now (length items.now)) }
     ensures { IfOk result (λ b. b ≡ filled_items fill items.now (valid_bits validity.now (length items.now))) }
 {
-    let mut out = Vec::with_capacity(alloc, items.len())?;
-    for i in 0..items.len() {
-        out.push(item_or(items[i], validity.is_valid(i), fill))?;
+    match validity {
+        Validity::NonNullable => Buffer::from_slice(alloc, items),
+        Validity::AllValid => Buffer::from_slice(alloc, items),
+        Validity::AllInvalid => {
+            let none = BitBuffer::new_unset(alloc, items.len())?;
+            fill_unset(alloc, items, &none, fill)
+        }
+        Validity::Bits(bits) => fill_unset(alloc, items, bits, fill),
     }
+}
+
+// The items, and the fill where the bit is not set.
+fn fill_unset<T: Copy>(
+    alloc: Global,
+    items: &[T],
+    bits: &BitBuffer,
+    fill: T,
+) -> Result<Buffer<T>, AllocError>
+    requires { length bits.now ≡ length items.now }
+    ensures { IfOk result (λ b. b ≡ filled_items fill items.now bits.now) }
+{
+    let mut out = Vec::from_elem(alloc, fill, items.len())?;
+    map_into(&FilledItems { items, bits, fill }, &mut out, |item: T| item);
     Ok(Buffer::from_vec(out))
+}
+
+// The items, and the fill where the bit is not set, as lanes.
+#[derive(Drop)]
+struct FilledItems<'a, T: Copy> {
+    items: &'a [T],
+    bits: &'a BitBuffer,
+    fill: T,
+    ghost long: { length bits.now ≡ length items.now },
+}
+
+impl<T: Copy> IndexedSource for FilledItems<'_, T> {
+    type Item = T;
+
+    ghost lanes = { λ s. filled_items s.fill s.items.now s.bits.now };
+
+    #[inline(always)]
+    fn len(&self) -> usize {
+        self.items.len()
+    }
+
+    #[inline(always)]
+    fn get(&self, i: usize) -> T {
+        item_or(self.items[i], self.bits.value(i), self.fill)
+    }
 }
 
 // The item where it is valid, else the fill.
@@ -102,8 +146,8 @@ impl IndexedSource for FilledBits<'_> {
 
 /// The truth values, and the fill in the null rows, of a type with nulls or without.
 pub fn fill_bools(
-    array: &BoolArray,
     alloc: Global,
+    array: &BoolArray,
     fill: bool,
     nullability: Nullability,
 ) -> Result<BoolArray, AllocError>
@@ -194,8 +238,8 @@ fn fill_numbers(
 
 /// The numbers, and the fill, which lies in their width, in the null rows, of a type with nulls or without.
 pub fn fill_primitive(
-    array: &PrimitiveArray,
     alloc: Global,
+    array: &PrimitiveArray,
     fill: i128,
     nullability: Nullability,
 ) -> Result<PrimitiveArray, AllocError>
@@ -230,8 +274,8 @@ fn fill_decimal_numbers(
 
 /// The decimals, and the fill's unscaled number in the null rows, of a type with nulls or without.
 pub fn fill_decimals(
-    array: &DecimalArray,
     alloc: Global,
+    array: &DecimalArray,
     fill: i128,
     nullability: Nullability,
 ) -> Result<DecimalArray, AllocError>

@@ -6,6 +6,7 @@ ghost use Rattle.vortex_columns.specs.declared.validity.Validity.TheVariants as 
 ghost use Rattle.vortex_casts.specs.Lanes.{WithinWhereValid, FirstOutside, RefusesNumbers, SameWhereValid};
 
 use crate::errors::CastError;
+use crate::native_cast::{FromNative, ToNative};
 use std::alloc::Global;
 use vortex_buffer::{AllocError, BitBuffer, Buffer};
 use vortex_columns::Validity;
@@ -14,16 +15,16 @@ use vortex_types::{NativeValue, PType};
 
 // The number in another width, or none where it lies outside.
 #[inline(always)]
-fn converted<T: NativeValue, U: NativeValue>(item: T) -> Option<U>
+fn converted<T: ToNative, U: FromNative>(item: T) -> Option<U>
     ensures value { IfSome result (λ x. U.number x ≡ T.number item) }
     ensures within { is_some result ≡ in_width U.width (T.number item) }
 {
-    U::from_value(item.value())
+    item.to_native()
 }
 
 // Writes all numbers.
 #[inline]
-fn convert_all<T: NativeValue, U: NativeValue + LaneDefault>(
+fn convert_all<T: ToNative, U: FromNative + LaneDefault>(
     items: &[T],
     out: &mut [U],
 ) -> Result<(), usize>
@@ -37,7 +38,7 @@ fn convert_all<T: NativeValue, U: NativeValue + LaneDefault>(
 
 // Writes the numbers whose bit is set, and any others in the other places.
 #[inline]
-fn convert_masked<T: NativeValue, U: NativeValue + LaneDefault>(
+fn convert_masked<T: ToNative, U: FromNative + LaneDefault>(
     items: &[T],
     bits: &BitBuffer,
     out: &mut [U],
@@ -53,7 +54,7 @@ fn convert_masked<T: NativeValue, U: NativeValue + LaneDefault>(
 
 // Writes the numbers of the places that are valid, and any others in the other places.
 #[inline]
-fn convert_into<T: NativeValue, U: NativeValue + LaneDefault>(
+fn convert_into<T: ToNative, U: FromNative + LaneDefault>(
     items: &[T],
     validity: &Validity,
     out: &mut [U],
@@ -102,7 +103,7 @@ fn refused<T: NativeValue>(items: &[T], validity: &Validity, width: PType) -> Ca
 }
 
 /// The same number in another width at each place that is valid. Refused exactly at the first that lies outside.
-pub(crate) fn cast_items<T: NativeValue, U: NativeValue + LaneDefault>(
+pub(crate) fn cast_items<T: ToNative, U: FromNative + LaneDefault>(
     alloc: Global,
     items: &[T],
     validity: &Validity,

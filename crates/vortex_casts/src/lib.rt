@@ -6,6 +6,7 @@ mod constant;
 mod errors;
 mod fill;
 mod lanes;
+mod native_cast;
 mod nulls;
 mod plain;
 mod primitive;
@@ -17,3 +18,6 @@ pub use fill::{fill_bools, fill_decimals, fill_primitive};
 pub use plain::{cast_bools, cast_decimals};
 pub use primitive::cast_primitive;
 pub use texts::{cast_texts, fill_texts};
+
+#[cfg(test)]
+mod tests;

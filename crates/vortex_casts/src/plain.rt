@@ -15,14 +15,14 @@ use vortex_types::{DType, DecimalDType, Nullability};
 
 /// The same truth values, of this type. It is refused exactly where the type is not one of truth values, and at the
 /// first null where the type has none.
-pub fn cast_bools(array: &BoolArray, alloc: Global, dtype: &DType) -> Result<BoolArray, CastError>
+pub fn cast_bools(alloc: Global, array: &BoolArray, dtype: &DType) -> Result<BoolArray, CastError>
     ensures ok { IfOk result (λ a. bool_column a ≡ cast_column dtype.now (bool_column array.now)) }
     ensures fits { OnOk result (IsCast dtype.now (bool_column array.now)) }
     ensures err { IfErr result (RefusesCast dtype.now (bool_column array.now)) }
 {
     match dtype {
         DType::Bool(nullability) => {
-            bools_with(array.bits(), array.validity(), alloc, *nullability)
+            bools_with(alloc, array.bits(), array.validity(), *nullability)
         }
         _ => Err(CastError::Unsupported),
     }
@@ -30,9 +30,9 @@ pub fn cast_bools(array: &BoolArray, alloc: Global, dtype: &DType) -> Result<Boo
 
 // The same truth values, with nulls or without.
 fn bools_with(
+    alloc: Global,
     bits: &BitBuffer,
     validity: &Validity,
-    alloc: Global,
     nullability: Nullability,
 ) -> Result<BoolArray, CastError>
     requires { IsTrue (is_as_long validity.now (length bits.now)) }
@@ -42,7 +42,7 @@ fn bools_with(
 {
     match first_refused_null(validity, bits.len(), nullability) {
         Some(row) => Err(CastError::HasNull { row }),
-        None => match copied_bools(bits, validity, alloc, nullability) {
+        None => match copied_bools(alloc, bits, validity, nullability) {
             Ok(cast) => Ok(cast),
             Err(_) => Err(CastError::OutOfMemory),
         },
@@ -51,9 +51,9 @@ fn bools_with(
 
 // A second column of the same truth values, with nulls or without.
 fn copied_bools(
+    alloc: Global,
     bits: &BitBuffer,
     validity: &Validity,
-    alloc: Global,
     nullability: Nullability,
 ) -> Result<BoolArray, AllocError>
     requires { IsTrue (is_as_long validity.now (length bits.now)) }
@@ -70,8 +70,8 @@ fn copied_bools(
 /// The same decimals, of this type. It is refused exactly where the type is not one of decimals of the same digits, and
 /// at the first null where the type has none.
 pub fn cast_decimals(
-    array: &DecimalArray,
     alloc: Global,
+    array: &DecimalArray,
     dtype: &DType,
 ) -> Result<DecimalArray, CastError>
     ensures ok { IfOk result (λ a. decimal_column a ≡ cast_column dtype.now (decimal_column array.now)) }
@@ -83,7 +83,7 @@ pub fn cast_decimals(
     }
     match dtype {
         DType::Decimal(digits, nullability) => {
-            decimals_with(array, alloc, *digits, *nullability)
+            decimals_with(alloc, array, *digits, *nullability)
         }
         _ => Err(CastError::Unsupported),
     }
@@ -91,8 +91,8 @@ pub fn cast_decimals(
 
 // The same decimals of the same digits, with nulls or without.
 fn decimals_with(
-    array: &DecimalArray,
     alloc: Global,
+    array: &DecimalArray,
     digits: DecimalDType,
     nullability: Nullability,
 ) -> Result<DecimalArray, CastError>
@@ -105,7 +105,7 @@ fn decimals_with(
     let validity = array.validity();
     match first_refused_null(validity, values.len(), nullability) {
         Some(row) => Err(CastError::HasNull { row }),
-        None => match copied_decimals(values, validity, alloc, digits, nullability) {
+        None => match copied_decimals(alloc, values, validity, digits, nullability) {
             Ok(cast) => Ok(cast),
             Err(_) => Err(CastError::OutOfMemory),
         },
@@ -114,9 +114,9 @@ fn decimals_with(
 
 // A second column of the same decimals, of these digits, with nulls or without.
 fn copied_decimals(
+    alloc: Global,
     values: &DecimalBuffer,
     validity: &Validity,
-    alloc: Global,
     digits: DecimalDType,
     nullability: Nullability,
 ) -> Result<DecimalArray, AllocError>

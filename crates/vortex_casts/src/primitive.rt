@@ -9,14 +9,15 @@ ghost use Rattle.vortex_casts.specs.Lanes.{WithinWhereValid, RefusesNumbers, Sam
 
 use crate::errors::CastError;
 use crate::lanes::cast_items;
+use crate::native_cast::ToNative;
 use crate::nulls::{first_refused_null, validity_with};
 use std::alloc::Global;
 use vortex_buffer::Buffer;
 use vortex_columns::{PrimitiveArray, PrimitiveBuffer, Validity};
-use vortex_types::{DType, NativeValue, Nullability, PType};
+use vortex_types::{DType, Nullability, PType};
 
 // The numbers of one width in another.
-fn cast_to<T: NativeValue>(
+fn cast_to<T: ToNative>(
     alloc: Global,
     items: &Buffer<T>,
     validity: &Validity,
@@ -69,8 +70,8 @@ fn cast_numbers(
 /// The same numbers in another width. It is refused exactly where the type is not one of whole numbers, and at the first
 /// row that does not fit it: null where the type has none, or a number outside the width.
 pub fn cast_primitive(
-    array: &PrimitiveArray,
     alloc: Global,
+    array: &PrimitiveArray,
     dtype: &DType,
 ) -> Result<PrimitiveArray, CastError>
     ensures ok { IfOk result (λ a. primitive_column a ≡ cast_column dtype.now (primitive_column array.now)) }
@@ -80,9 +81,9 @@ pub fn cast_primitive(
     match dtype {
         DType::Primitive(width, nullability) => {
             numbers_with(
+                alloc,
                 array.values(),
                 array.validity(),
-                alloc,
                 *width,
                 *nullability,
             )
@@ -93,9 +94,9 @@ pub fn cast_primitive(
 
 // The same numbers in another width, with nulls or without.
 fn numbers_with(
+    alloc: Global,
     values: &PrimitiveBuffer,
     validity: &Validity,
-    alloc: Global,
     width: PType,
     nullability: Nullability,
 ) -> Result<PrimitiveArray, CastError>

@@ -16,8 +16,8 @@ use vortex_types::{DType, ValueRef};
 /// The same texts or bytes, of this type. It is refused exactly where the type is not of their kind, and at the first
 /// null where the type has none.
 pub fn cast_texts(
-    array: &VarBinViewArray,
     alloc: Global,
+    array: &VarBinViewArray,
     dtype: &DType,
 ) -> Result<VarBinViewArray, CastError>
     ensures ok { IfOk result (λ a. a ≡ cast_column dtype.now array.now) }
@@ -28,16 +28,16 @@ pub fn cast_texts(
         return Err(CastError::Unsupported);
     }
     if dtype.is_nullable() {
-        with_nulls(array, alloc, dtype)
+        with_nulls(alloc, array, dtype)
     } else {
-        without_nulls(array, alloc, dtype)
+        without_nulls(alloc, array, dtype)
     }
 }
 
 // The same texts or bytes, of a type with nulls.
 fn with_nulls(
-    array: &VarBinViewArray,
     alloc: Global,
+    array: &VarBinViewArray,
     dtype: &DType,
 ) -> Result<VarBinViewArray, CastError>
     requires kind { IsTrue (same_apart_from_nullability array.now.dtype dtype.now) }
@@ -55,8 +55,8 @@ fn with_nulls(
 
 // The same texts or bytes, of a type without nulls.
 fn without_nulls(
-    array: &VarBinViewArray,
     alloc: Global,
+    array: &VarBinViewArray,
     dtype: &DType,
 ) -> Result<VarBinViewArray, CastError>
     requires kind { IsTrue (same_apart_from_nullability array.now.dtype dtype.now) }
@@ -68,7 +68,7 @@ fn without_nulls(
     let _own = array.dtype();
     match first_null_row(array) {
         Some(row) => Err(CastError::HasNull { row }),
-        None => match filled_texts(array, alloc, dtype, &[]) {
+        None => match filled_texts(alloc, array, dtype, &[]) {
             Ok(cast) => Ok(cast),
             Err(_) => Err(CastError::OutOfMemory),
         },
@@ -90,8 +90,8 @@ fn first_null_row(array: &VarBinViewArray) -> Option<usize>
 /// The texts or bytes, and the fill in the null rows, of this type, which differs from theirs by its nulls alone. The
 /// fill of a type of texts is UTF-8.
 pub fn fill_texts(
-    array: &VarBinViewArray,
     alloc: Global,
+    array: &VarBinViewArray,
     dtype: &DType,
     fill: &[u8],
 ) -> Result<VarBinViewArray, AllocError>
@@ -100,7 +100,7 @@ pub fn fill_texts(
     ensures { IfOk result (λ a. a ≡ filled (record { dtype = dtype.now; value = Some (bytes_value dtype.now fill.now) }) array.now) }
 {
     let _own = array.dtype();
-    match filled_texts(array, alloc, dtype, fill) {
+    match filled_texts(alloc, array, dtype, fill) {
         Ok(filled) => Ok(filled),
         Err(error) => Err(error),
     }
@@ -108,8 +108,8 @@ pub fn fill_texts(
 
 // The same rows in a type that differs by its nulls alone, the fill where they are null.
 fn filled_texts(
-    array: &VarBinViewArray,
     alloc: Global,
+    array: &VarBinViewArray,
     dtype: &DType,
     fill: &[u8],
 ) -> Result<VarBinViewArray, AllocError>

@@ -1,10 +1,10 @@
 -- Which rows are not null, of two columns together.
-use Rattle.std.proofs.Common.{ℕ, ◌≡◌, ◌==◌, Bool, true, false, ◌&&◌, List, length, replicate, refl, sym, ap, ◌∙◌, arith}
+use Rattle.std.proofs.Common.{ℕ, ◌≡◌, ◌==◌, Bool, ◌&&◌, List, length, refl, sym, ◌∙◌}
 use Rattle.std.specs.Prelude.{IsTrue}
 use Rattle.std.specs.Simd.Lanes.{zip2}
 use Rattle.std.proofs.lemmas.Bool.Decides.{Decides-eqb}
 use Rattle.std.proofs.lemmas.Simd.{length-zip2}
-use Rattle.vortex_buffer.proofs.Unset.{and-all_left, and-all_right, and-none_left, and-none_right}
+use Rattle.vortex_buffer.proofs.Unset.{and-all_right, and-none_right}
 use Rattle.vortex_types.specs.declared.types.Nullability.{Nullability}
 use Rattle.vortex_types.specs.declared.types.Nullability.TheVariants as nulls
 use Rattle.vortex_columns.specs.Truths.{BothValid, either}

@@ -1,10 +1,9 @@
 -- Which answers of two columns of truth values are known.
-use Rattle.std.proofs.Common.{ℕ, ◌≡◌, ◌==◌, Bool, true, false, ◌&&◌, ◌||◌, List, length, replicate, refl, sym, ap, ◌∙◌, arith}
+use Rattle.std.proofs.Common.{ℕ, ◌≡◌, Bool, true, ◌&&◌, ◌||◌, List, length, replicate, sym, ap, ◌∙◌}
 use Rattle.std.specs.Prelude.{IsTrue}
 use Rattle.std.specs.Simd.Lanes.{zip2}
 use Rattle.std.proofs.lemmas.Bool.Decides.{Decides-eqb}
 use Rattle.std.proofs.lemmas.Simd.{length-zip2}
-use Rattle.vortex_types.specs.declared.types.Nullability.{Nullability}
 use Rattle.vortex_types.specs.declared.types.Nullability.TheVariants as nulls
 use Rattle.vortex_columns.specs.Known.{KnownWhere, known}
 use Rattle.vortex_columns.specs.Truths.{BothValid, either}

@@ -1,9 +1,5 @@
 pub mod RowLemmas
 pub mod ByteRows
-pub mod SelectedRows
-pub mod TakenRows
-pub mod TextRows
-pub mod EqualRows
 pub mod TruthRows
 pub mod TruthColumns
 pub mod BothValid

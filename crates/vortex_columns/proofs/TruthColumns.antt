@@ -1,6 +1,6 @@
 -- Columns of truth values that are made by words.
-use Rattle.std.proofs.Common.{ℕ, ◌≡◌, Bool, true, false, not, ◌&&◌, ◌||◌, List, length, map, refl, sym, ap, ◌∙◌, arith, Option, Some, None}
-use Rattle.std.specs.Prelude.{IsTrue, option_map, replicate}
+use Rattle.std.proofs.Common.{ℕ, ◌≡◌, Bool, not, ◌&&◌, ◌||◌, List, length, map, refl, sym, ap, ◌∙◌, Option}
+use Rattle.std.specs.Prelude.{IsTrue, option_map}
 use Rattle.std.specs.Simd.Lanes.{zip2}
 use Rattle.std.proofs.lemmas.List.{length-map}
 use Rattle.std.proofs.lemmas.Simd.{length-zip2}
@@ -13,8 +13,8 @@ use Rattle.vortex_types.specs.declared.scalar.Value.{Value}
 use Rattle.vortex_types.specs.declared.scalar.Value.TheVariants as value
 use Rattle.vortex_columns.specs.Kinds.{bool_column}
 use Rattle.vortex_columns.specs.Parts.{BoolParts}
-use Rattle.vortex_columns.specs.Validities.{row_of, rows_under, is_as_long, valid_bits, nullability_of}
-use Rattle.vortex_columns.specs.Truths.{BothValid, either, truths, truth_row, answer_in, answers, both_true, is_true, joined_by_and, joined_by_or, joined_strictly, negated}
+use Rattle.vortex_columns.specs.Validities.{is_as_long, valid_bits, nullability_of}
+use Rattle.vortex_columns.specs.Truths.{BothValid, truths, truth_row, answer_in, answers, both_true, is_true, joined_by_and, joined_by_or, joined_strictly, negated}
 use Rattle.vortex_columns.specs.Known.{KnownWhere, known}
 use Rattle.vortex_columns.specs.declared.validity.Validity.{Validity}
 use Rattle.vortex_columns.proofs.RowLemmas.{length-rows-map}

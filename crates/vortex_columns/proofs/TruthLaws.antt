@@ -1,10 +1,9 @@
 -- What a call of three values answers of one row.
-use Rattle.std.proofs.Common.{ℕ, zero, suc, ◌≡◌, ◌<◌, Bool, not, List, [], ◌∷◌, length, get_or, map, refl, sym, ap, ◌∙◌, arith, Option, Some, None}
+use Rattle.std.proofs.Common.{ℕ, zero, suc, ◌≡◌, ◌<◌, Bool, not, List, [], ◌∷◌, length, get_or, map, refl, ap, ◌∙◌, arith, Option, Some, None}
 use Rattle.std.specs.Prelude.{option_map}
 use Rattle.std.specs.Simd.Lanes.{zip2}
 use Rattle.std.proofs.lemmas.List.{length-map, get_or-map}
-use Rattle.std.proofs.lemmas.Simd.{length-zip2, get_or-zip2}
-use Rattle.vortex_types.specs.Row.{Column}
+use Rattle.std.proofs.lemmas.Simd.{get_or-zip2}
 use Rattle.vortex_types.specs.Order.{compares}
 use Rattle.vortex_types.specs.Truth.{and3, or3, both, all_three, is_like, lies_between}
 use Rattle.vortex_types.specs.declared.scalar.Value.{Value}

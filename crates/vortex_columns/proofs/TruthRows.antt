@@ -1,13 +1,12 @@
 -- The rows of columns of truth values, by their bits.
-use Rattle.std.proofs.Common.{ℕ, zero, suc, ◌<◌, ◌≡◌, ◌==◌, ◌+◌, Bool, true, false, not, ◌&&◌, ◌||◌, List, [], ◌∷◌, length, get_or, map, refl, sym, ap, ◌∙◌, arith, Option, Some, None, cond}
-use Rattle.std.specs.Prelude.{IsTrue, replicate, is_some, option_map}
+use Rattle.std.proofs.Common.{ℕ, zero, suc, ◌≡◌, Bool, true, false, not, ◌&&◌, ◌||◌, List, [], ◌∷◌, length, map, refl, ap, ◌∙◌, arith, Option, Some, None}
+use Rattle.std.specs.Prelude.{IsTrue, replicate, option_map}
 use Rattle.std.specs.Simd.Lanes.{zip2}
-use Rattle.std.proofs.lemmas.List.{length-map, length-replicate}
-use Rattle.std.proofs.lemmas.Simd.{length-zip2, zip2_splat}
+use Rattle.std.proofs.lemmas.List.{length-replicate}
 use Rattle.vortex_types.specs.Truth.{and3, or3}
 use Rattle.vortex_types.specs.declared.scalar.Value.{Value}
 use Rattle.vortex_types.specs.declared.scalar.Value.TheVariants as value
-use Rattle.vortex_columns.specs.Validities.{row_of, rows_under, is_as_long, valid_bits, nullability_of}
+use Rattle.vortex_columns.specs.Validities.{row_of, rows_under, is_as_long, valid_bits}
 use Rattle.vortex_columns.specs.Truths.{truth_row, answer_in, both_true, is_true}
 use Rattle.vortex_columns.specs.Known.{known}
 use Rattle.vortex_columns.specs.declared.validity.Validity.{Validity}

@@ -4,8 +4,6 @@ pub mod Numbers
 pub mod Kinds
 pub mod ByteRows
 pub mod Pushed
-pub mod Selected
-pub mod SelectedParts
 pub mod Truths
 pub mod Known
 pub mod TruthLaws

@@ -1,5 +1,5 @@
 -- What a call of three values answers of one row: what a filter's truth is for that row.
-use Rattle.std.specs.Prelude.{◌≡◌, ◌<◌, ℕ, Bool, not, List, length, Option, None, option_map, slice_index_or}
+use Rattle.std.specs.Prelude.{◌≡◌, ◌<◌, ℕ, Bool, not, length, Option, None, option_map, slice_index_or}
 use Rattle.vortex_compute.specs.declared.compare.CompareOperator.{CompareOperator}
 use Rattle.vortex_types.specs.declared.filter.BetweenOptions.{BetweenOptions}
 use Rattle.vortex_types.specs.declared.scalar.Value.{Value}

@@ -48,3 +48,10 @@ nullable_validity NonNullable = AllValid
 nullable_validity AllValid = AllValid
 nullable_validity AllInvalid = AllInvalid
 nullable_validity (Bits bits) = Bits bits
+
+-- the validity has no null, however many rows there are: bits are not looked at
+abbrev pub has_none : Validity → Bool
+has_none NonNullable = true
+has_none AllValid = true
+has_none AllInvalid = false
+has_none (Bits bits) = false

@@ -9,7 +9,6 @@ mod joined;
 mod kleene;
 mod laws;
 mod primitive;
-mod select;
 mod validity;
 mod var_bin;
 

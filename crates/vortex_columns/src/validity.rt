@@ -1,15 +1,17 @@
 // Which rows of a column are not null.
 ghost use Rattle.std.specs.Prelude.{◌≡◌, IfOk, option_map};
 ghost use Rattle.vortex_buffer.specs.Mask.{mask_bits};
-ghost use Rattle.vortex_columns.specs.Validities.{is_as_long, nullability_of, nullable_validity, row_of, valid_at, valid_bits};
+ghost use Rattle.vortex_columns.specs.Validities.{has_none, is_as_long, nullability_of, nullable_validity, row_of, valid_at, valid_bits};
 ghost use Rattle.vortex_types.specs.Seen.{value_seen};
 
 use std::alloc::{AllocError, Global};
+use thiserror::Error;
 use vortex_buffer::{BitBuffer, Mask};
 use vortex_types::{Nullability, ValueRef};
 
 /// An array and its validity have different lengths.
-#[derive(Clone, Copy, Debug, PartialEq, Eq)]
+#[derive(Clone, Copy, Debug, PartialEq, Eq, Error)]
+#[error("the lengths differ")]
 pub struct LengthMismatch;
 
 /// Which rows are not null. All but the first make a nullable type.
@@ -43,6 +45,16 @@ impl Validity {
         match self {
             Validity::NonNullable | Validity::AllValid | Validity::AllInvalid => true,
             Validity::Bits(bits) => bits.len() == len,
+        }
+    }
+
+    /// Whether it says of no row, however many there are, that it is null. Bits may say so, and are not looked at.
+    pub fn has_none(&self) -> bool
+        ensures { result ≡ has_none self.now }
+    {
+        match self {
+            Validity::NonNullable | Validity::AllValid => true,
+            Validity::AllInvalid | Validity::Bits(_) => false,
         }
     }
 

@@ -15,19 +15,23 @@ use crate::validity::row_if;
 pub use parts::{ByteParts, validity_of_rows};
 use std::alloc::{AllocError, Global};
 use std::marker::Model;
+use thiserror::Error;
 use vortex_buffer::{BitBuffer, Mask};
 use vortex_compute::collect_bits;
 use vortex_rows::ByteLists;
 use vortex_types::{DType, ValueRef};
 
 /// Why a row was not taken.
-#[derive(Clone, Copy, Debug, PartialEq, Eq)]
+#[derive(Clone, Copy, Debug, PartialEq, Eq, Error)]
 pub enum PushError {
     /// Null in a column without nulls.
+    #[error("null in a column without nulls")]
     WrongType,
     /// A text that is not UTF-8.
+    #[error("the text is not UTF-8")]
     NotUtf8,
     /// Memory is wanting.
+    #[error("out of memory")]
     OutOfMemory,
 }
 
@@ -214,20 +218,6 @@ impl VarBinViewArray {
             lists,
             present,
         })
-    }
-}
-
-impl VarBinViewArray {
-    // The column of these lists of bytes.
-    pub(crate) fn from_parts(dtype: DType, lists: ByteLists, present: Vec<bool>) -> VarBinViewArray
-        requires { HoldsBytes dtype lists present.items }
-        ensures { result ≡ record { dtype = dtype; rows = bytes_rows dtype lists present.items } }
-    {
-        VarBinViewArray {
-            dtype,
-            lists,
-            present,
-        }
     }
 }
 

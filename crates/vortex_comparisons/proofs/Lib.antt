@@ -4,3 +4,4 @@ pub mod Equal
 pub mod ListSides
 pub mod OrderAnswers
 pub mod Pairs
+pub mod Likes

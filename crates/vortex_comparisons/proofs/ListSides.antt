@@ -62,7 +62,7 @@ length-lists a lists present rows holds = ap length rows ∙ length-bytes a.dtyp
 pub long-lists : (a : Column) (lists : List (List ℕ)) (present : List Bool) (v : Validity) → ListParts a lists present v → IsTrue (is_as_long v (length lists))
 long-lists a lists present v h = rw (sym h.holds.same_length) h.long
 
-lists_side : (a : Column) (lists : List (List ℕ)) (present : List Bool) (v : Validity) → ListParts a lists present v → Side (bytes_value a.dtype) lists v a
+pub lists_side : (a : Column) (lists : List (List ℕ)) (present : List Bool) (v : Validity) → ListParts a lists present v → Side (bytes_value a.dtype) lists v a
 lists_side a lists present v h = record {
   long = long-lists a lists present v h;
   rows = h.rows ∙ ap (zip2 (λ bytes p. row_of (bytes_value a.dtype bytes) p) lists) (sym h.valid ∙ ap (valid_bits v) h.holds.same_length);

@@ -1,3 +1,2 @@
 pub mod Repeated
-pub mod NumberOrder
 pub mod Turned

@@ -4,6 +4,7 @@
 
 mod answering;
 mod decimals;
+mod like;
 mod lists;
 mod numbers;
 mod orders;
@@ -12,14 +13,15 @@ mod turned;
 mod values;
 
 pub use decimals::{compare_decimals, compare_decimals_with};
+pub use like::{like_pattern, like_patterns, text_like_patterns};
 pub use lists::{compare_lists, compare_lists_with};
-pub use numbers::{NativeOrder, compare_numbers, compare_numbers_with};
+pub use numbers::{NativeItems, compare_numbers, compare_numbers_with};
 pub use orders::compare_orders;
 pub use truths::{compare_truths, compare_truths_with};
 pub use turned::turned_operator;
 pub use values::{
     compare_decimal_value, compare_list_value, compare_number_value, compare_truth_value,
-    compare_values, equal_answers, null_answers, order_of,
+    equal_answers, null_answers,
 };
 
 #[cfg(test)]

@@ -10,7 +10,6 @@ ghost use Rattle.vortex_types.specs.declared.types.PType.TheVariants as widths;
 ghost use Rattle.vortex_columns.specs.Kinds.{bool_column, len_of, numbers_of, primitive_column, ptype_of};
 ghost use Rattle.vortex_columns.specs.Truths.{compared};
 ghost use Rattle.vortex_comparisons.specs.Repeated.{repeated};
-ghost use Rattle.vortex_comparisons.specs.NumberOrder.{naturals_ordered, integers_ordered};
 
 use crate::answering::answer_column;
 use crate::orders::compare_orders;
@@ -19,104 +18,86 @@ use std::cmp::Ordering;
 use vortex_buffer::{BitBuffer, Buffer};
 use vortex_columns::{BoolArray, PrimitiveArray, PrimitiveBuffer, Validity};
 use vortex_compute::{CompareOperator, IndexedSource};
-use vortex_types::{NativeValue, Nullability};
+use vortex_types::{NativeOrder, Nullability};
 
-/// A native type of whole numbers whose order is that of its numbers.
-pub trait NativeOrder: NativeValue + Ord {
+/// A native type of whole numbers that finds its numbers in a buffer.
+pub trait NativeItems: NativeOrder {
     /// The numbers of a buffer of this width.
     fn items(buffer: &PrimitiveBuffer) -> &Buffer<Self>
         requires { ptype_of buffer.now ≡ Self.width }
         ensures { numbers_of buffer.now ≡ map Self.number result.now };
-
-    ghost ordered: { (x y : Self) → Self.cmp x y ≡ int_cmp (Self.number x) (Self.number y) };
 }
 
-impl NativeOrder for u8 {
+impl NativeItems for u8 {
     fn items(buffer: &PrimitiveBuffer) -> &Buffer<u8> {
         match buffer {
             PrimitiveBuffer::U8(items) => items,
             _ => unreachable!(),
         }
     }
-
-    ghost ordered = { naturals_ordered };
 }
 
-impl NativeOrder for u16 {
+impl NativeItems for u16 {
     fn items(buffer: &PrimitiveBuffer) -> &Buffer<u16> {
         match buffer {
             PrimitiveBuffer::U16(items) => items,
             _ => unreachable!(),
         }
     }
-
-    ghost ordered = { naturals_ordered };
 }
 
-impl NativeOrder for u32 {
+impl NativeItems for u32 {
     fn items(buffer: &PrimitiveBuffer) -> &Buffer<u32> {
         match buffer {
             PrimitiveBuffer::U32(items) => items,
             _ => unreachable!(),
         }
     }
-
-    ghost ordered = { naturals_ordered };
 }
 
-impl NativeOrder for u64 {
+impl NativeItems for u64 {
     fn items(buffer: &PrimitiveBuffer) -> &Buffer<u64> {
         match buffer {
             PrimitiveBuffer::U64(items) => items,
             _ => unreachable!(),
         }
     }
-
-    ghost ordered = { naturals_ordered };
 }
 
-impl NativeOrder for i8 {
+impl NativeItems for i8 {
     fn items(buffer: &PrimitiveBuffer) -> &Buffer<i8> {
         match buffer {
             PrimitiveBuffer::I8(items) => items,
             _ => unreachable!(),
         }
     }
-
-    ghost ordered = { integers_ordered };
 }
 
-impl NativeOrder for i16 {
+impl NativeItems for i16 {
     fn items(buffer: &PrimitiveBuffer) -> &Buffer<i16> {
         match buffer {
             PrimitiveBuffer::I16(items) => items,
             _ => unreachable!(),
         }
     }
-
-    ghost ordered = { integers_ordered };
 }
 
-impl NativeOrder for i32 {
+impl NativeItems for i32 {
     fn items(buffer: &PrimitiveBuffer) -> &Buffer<i32> {
         match buffer {
             PrimitiveBuffer::I32(items) => items,
             _ => unreachable!(),
         }
     }
-
-    ghost ordered = { integers_ordered };
 }
 
-impl NativeOrder for i64 {
+impl NativeItems for i64 {
     fn items(buffer: &PrimitiveBuffer) -> &Buffer<i64> {
         match buffer {
             PrimitiveBuffer::I64(items) => items,
             _ => unreachable!(),
         }
     }
-
-    ghost ordered = { integers_ordered };
 }
 
 // Two slices of numbers of one length: how the numbers at each place stand.
@@ -181,7 +162,7 @@ fn pair_bits<T: NativeOrder>(
 }
 
 // The answers for numbers and the numbers of a buffer of the same width.
-fn items_bits<T: NativeOrder>(
+fn items_bits<T: NativeItems>(
     alloc: Global,
     left: &Buffer<T>,
     right: &PrimitiveBuffer,

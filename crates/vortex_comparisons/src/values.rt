@@ -1,7 +1,6 @@
-// Two values compared, and columns of one answer.
+// Columns compared with one value, and columns of one answer.
 ghost use Rattle.std.specs.Prelude.{◌≡◌, IfOk, IsTrue, None, Some, length, replicate};
-ghost use Rattle.vortex_types.specs.Order.{accepts, compares, value_cmp};
-ghost use Rattle.vortex_types.specs.Row.{nullability, value_fits};
+ghost use Rattle.vortex_types.specs.Row.{value_fits};
 ghost use Rattle.vortex_types.specs.Seen.{value_seen};
 ghost use Rattle.vortex_types.specs.declared.types.Nullability.TheVariants.{Nullable};
 ghost use Rattle.vortex_columns.specs.Kinds.{bool_column, decimal_column, primitive_column};
@@ -13,48 +12,9 @@ use crate::lists::compare_lists_with;
 use crate::numbers::compare_numbers_with;
 use crate::truths::compare_truths_with;
 use std::alloc::{AllocError, Global};
-use std::cmp::Ordering;
 use vortex_buffer::BitBuffer;
 use vortex_columns::{BoolArray, DecimalArray, PrimitiveArray, Validity, VarBinViewArray};
 use vortex_types::{CompareOperator, DType, Nullability, ValueRef};
-
-/// How two values stand, or none where they are of two kinds.
-pub fn order_of(a: ValueRef<'_>, b: ValueRef<'_>) -> Option<Ordering>
-    ensures { result ≡ value_cmp (value_seen a.entry) (value_seen b.entry) }
-{
-    match (a, b) {
-        (ValueRef::Bool(a), ValueRef::Bool(b)) => Some(a.cmp(&b)),
-        (ValueRef::Int(a), ValueRef::Int(b)) => Some(a.cmp(&b)),
-        (ValueRef::Decimal(a), ValueRef::Decimal(b)) => Some(a.cmp(&b)),
-        (ValueRef::Utf8(a), ValueRef::Utf8(b)) => Some(a.cmp(b)),
-        (ValueRef::Binary(a), ValueRef::Binary(b)) => Some(a.cmp(b)),
-        _ => None,
-    }
-}
-
-// Whether the operator holds of two values that stand so.
-fn holds_of(operator: CompareOperator, order: Ordering) -> bool
-    ensures { result ≡ accepts operator order }
-{
-    match operator {
-        CompareOperator::Eq => order.is_eq(),
-        CompareOperator::NotEq => order.is_ne(),
-        CompareOperator::Gt => order.is_gt(),
-        CompareOperator::Gte => order.is_ge(),
-        CompareOperator::Lt => order.is_lt(),
-        CompareOperator::Lte => order.is_le(),
-    }
-}
-
-/// Whether the operator holds of two values. None holds of values of two kinds.
-pub fn compare_values(operator: CompareOperator, a: ValueRef<'_>, b: ValueRef<'_>) -> bool
-    ensures { result ≡ compares operator (value_seen a.entry) (value_seen b.entry) }
-{
-    match order_of(a, b) {
-        Some(order) => holds_of(operator, order),
-        None => false,
-    }
-}
 
 /// So many rows of one truth value, in a type with nulls or without.
 pub fn equal_answers(
@@ -88,19 +48,6 @@ fn equal_bits(alloc: Global, bit: bool, len: usize) -> Result<BitBuffer, AllocEr
     }
 }
 
-// Whether the type has nulls.
-fn nullability_of_type(dtype: DType) -> Nullability
-    ensures { result ≡ nullability dtype }
-{
-    match dtype {
-        DType::Bool(nullability) => nullability,
-        DType::Primitive(_, nullability) => nullability,
-        DType::Decimal(_, nullability) => nullability,
-        DType::Utf8(nullability) => nullability,
-        DType::Binary(nullability) => nullability,
-    }
-}
-
 /// Row by row whether the operator holds of a column and one value that fits it, null where the row is null. Of the other
 /// type only its nulls count: the answer has nulls where one of the two has.
 pub fn compare_truth_value(
@@ -115,7 +62,7 @@ pub fn compare_truth_value(
 {
     match value {
         ValueRef::Bool(constant) => {
-            compare_truths_with(alloc, left, constant, nullability_of_type(dtype), operator)
+            compare_truths_with(alloc, left, constant, dtype.nullability(), operator)
         }
         _ => unreachable!(),
     }
@@ -135,7 +82,7 @@ pub fn compare_number_value(
 {
     match value {
         ValueRef::Int(number) => {
-            compare_numbers_with(alloc, left, number, nullability_of_type(dtype), operator)
+            compare_numbers_with(alloc, left, number, dtype.nullability(), operator)
         }
         _ => unreachable!(),
     }
@@ -155,7 +102,7 @@ pub fn compare_decimal_value(
 {
     match value {
         ValueRef::Decimal(number) => {
-            compare_decimals_with(alloc, left, number, nullability_of_type(dtype), operator)
+            compare_decimals_with(alloc, left, number, dtype.nullability(), operator)
         }
         _ => unreachable!(),
     }
@@ -176,16 +123,10 @@ pub fn compare_list_value(
     let _ = left.dtype();
     match value {
         ValueRef::Utf8(text) => {
-            compare_lists_with(
-                alloc,
-                left,
-                text.as_bytes(),
-                nullability_of_type(dtype),
-                operator,
-            )
+            compare_lists_with(alloc, left, text.as_bytes(), dtype.nullability(), operator)
         }
         ValueRef::Binary(bytes) => {
-            compare_lists_with(alloc, left, bytes, nullability_of_type(dtype), operator)
+            compare_lists_with(alloc, left, bytes, dtype.nullability(), operator)
         }
         ValueRef::Bool(_) => unreachable!(),
         ValueRef::Int(_) => unreachable!(),

@@ -1,11 +1,10 @@
 -- The order of equal rows.
-use Rattle.std.proofs.Common.{ℕ, zero, suc, inl, inr, ◌<◌, ◌≤◌, ◌≡◌, ◌+◌, Bool, true, false, List, length, get_or, refl, sym, ap, ◌∙◌, arith, Option, Some, None}
+use Rattle.std.proofs.Common.{ℕ, zero, suc, inl, inr, ◌<◌, ◌≤◌, ◌+◌, arith, Option, None}
 use Rattle.std.specs.Prelude.{IsTrue, replicate, ◌⊎◌}
-use Rattle.std.specs.Ordering.{is_some_and, is_lt}
 use Rattle.std.proofs.lemmas.Bool.{cases_lt, false≢true}
 use Rattle.std.proofs.lemmas.List.{get_or-replicate, length-replicate}
 use Rattle.vortex_types.specs.declared.scalar.Value.{Value}
-use Rattle.vortex_extremes.specs.InOrder.{IsConstant, IsSorted, IsStrictlySorted, at_most, below}
+use Rattle.vortex_extremes.specs.InOrder.{IsConstant, IsSorted, IsStrictlySorted, below}
 use Rattle.vortex_extremes.proofs.OrderLaws.{at_most-itself, row-itself}
 
 -- some equal rows are constant, and no rows are not

@@ -1,5 +1,5 @@
 -- The least and the greatest of the first rows.
-use Rattle.std.proofs.Common.{ℕ, ◌<◌, ◌≤◌, ◌≡◌, ◌+◌, Bool, true, false, List, length, get_or, refl, sym, ap, ◌∙◌, arith, Option, Some, None, inl, inr}
+use Rattle.std.proofs.Common.{ℕ, ◌<◌, ◌≤◌, ◌≡◌, ◌+◌, true, false, List, get_or, refl, sym, ap, ◌∙◌, arith, Option, Some, None, inl, inr}
 use Rattle.std.specs.Prelude.{IsTrue, is_some, unwrap_or, ◌⊎◌}
 use Rattle.std.specs.declared.cmp.Ordering.{Ordering}
 use Rattle.std.specs.declared.cmp.Ordering.TheVariants.{Less, Equal}
@@ -8,10 +8,12 @@ use Rattle.std.proofs.lemmas.Bool.{cases_lt, false≢true, true≢false}
 use Rattle.vortex_types.specs.Order.{row_cmp}
 use Rattle.vortex_types.specs.declared.scalar.Value.{Value}
 use Rattle.vortex_extremes.specs.InOrder.{at_most}
+use Rattle.vortex_extremes.specs.Asked.{ExtremesBelow}
+use Rattle.vortex_extremes.specs.declared.places.ExtremePlaces.{ExtremePlaces}
 use Rattle.vortex_extremes.specs.Extremes.{LeastOf, GreatestOf, NoneOf}
-use Rattle.vortex_extremes.proofs.OrderLaws.{null-least, at_most-itself, at_most-trans, turned, below-at_most, above-at_least, at_most-answered}
+use Rattle.vortex_extremes.proofs.OrderLaws.{null-least, at_most-itself, at_most-trans, below-at_most, above-at_least, at_most-answered}
 
-is-none : (a : Option Value) → is_some a ≡ false → a ≡ None
+pub is-none : (a : Option Value) → is_some a ≡ false → a ≡ None
 is-none None h = refl
 is-none (Some a) h = absurd (true≢false h)
 
@@ -86,4 +88,18 @@ greatest-kept rows i place o h e not_above =
       within = omega (arith, h.within);
       some = h.some;
       bound = more (λ j. IsTrue (at_most (get_or rows j None) (get_or rows place None))) i h.bound (at_most-answered (get_or rows i None) (get_or rows place None) o e not_above);
+    }
+
+-- one more row, which is null
+pub passed-over : (rows : List (Option Value)) (i : ℕ) (found : Option ExtremePlaces) → ExtremesBelow rows i found → is_some (get_or rows i None) ≡ false → ExtremesBelow rows (i + 1) found
+passed-over rows i None h e = none-more rows i h e
+passed-over rows i (Some found) h e =
+    let null = is-none (get_or rows i None) e in
+    record {
+      least = least-kept rows i found.least h.least (λ s. absurd (false≢true (sym e ∙ s)));
+      greatest = record {
+        within = omega (arith, h.greatest.within);
+        some = h.greatest.some;
+        bound = more (λ j. IsTrue (at_most (get_or rows j None) (get_or rows found.greatest None))) i h.greatest.bound (null-least (get_or rows i None) (get_or rows found.greatest None) null h.greatest.some);
+      };
     }

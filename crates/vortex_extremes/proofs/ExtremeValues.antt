@@ -1,17 +1,18 @@
 -- The extreme values of a column, from the places of them.
-use Rattle.std.proofs.Common.{ℕ, zero, suc, ◌<◌, ◌≡◌, Bool, true, false, List, length, get_or, refl, sym, ap, ◌∙◌, arith, Option, Some, None}
-use Rattle.std.specs.Prelude.{IsTrue, is_some, Contains, All, replicate}
+use Rattle.std.proofs.Common.{ℕ, ◌<◌, ◌≡◌, true, List, length, get_or, refl, ap, ◌∙◌, arith, Option, Some, None}
+use Rattle.std.specs.Prelude.{IsTrue, is_some, Contains, replicate}
 use Rattle.std.proofs.lemmas.Bool.{false≢true}
 use Rattle.std.proofs.lemmas.List.{get_or_default, get_or-replicate, length-replicate}
 use Rattle.vortex_types.specs.Order.{compares}
 use Rattle.vortex_types.specs.Row.{Column, TypedRow, value_fits}
+use Rattle.vortex_types.specs.Widths.{full_form}
 use Rattle.vortex_types.specs.declared.types.DType.{DType}
 use Rattle.vortex_types.specs.declared.types.DType.TheVariants as dtype
 use Rattle.vortex_types.specs.declared.scalar.Value.{Value}
 use Rattle.vortex_types.specs.declared.scalar.Value.TheVariants.{Bool as Truth, Int, Decimal, Utf8, Binary}
 use Rattle.vortex_compute.specs.declared.compare.CompareOperator.TheVariants.{Lte}
 use Rattle.vortex_extremes.specs.InOrder.{at_most}
-use Rattle.vortex_extremes.specs.Extremes.{LeastOf, GreatestOf, NoneOf, LeastBelow, GreatestBelow, AreExtremes, IsLeast, IsGreatest, HasNoValue, full_form}
+use Rattle.vortex_extremes.specs.Extremes.{LeastOf, GreatestOf, NoneOf, ExtremesOf, AreExtremes, IsLeastValue, IsGreatestValue, HasNoValue}
 use Rattle.vortex_extremes.specs.Asked.{FirstValue}
 use Rattle.vortex_extremes.proofs.OrderLaws.{at_most-itself}
 
@@ -75,7 +76,7 @@ held : (rows : List (Option Value)) (i : ℕ) (v : Value) → i < length rows �
 held rows i v l e = (i, l, get_or_default rows i (Some v) None l ∙ e)
 
 -- the value at the least place is the least
-pub least-value : (rows : List (Option Value)) (i : ℕ) (v : Value) → LeastOf rows (length rows) i → get_or rows i None ≡ Some v → IsLeast rows v
+pub least-value : (rows : List (Option Value)) (i : ℕ) (v : Value) → LeastOf rows (length rows) i → get_or rows i None ≡ Some v → IsLeastValue rows v
 least-value rows i v h e =
     record {
       among = held rows i v h.within e;
@@ -85,7 +86,7 @@ least-value rows i v h e =
     }
 
 -- the value at the greatest place is the greatest
-pub greatest-value : (rows : List (Option Value)) (i : ℕ) (v : Value) → GreatestOf rows (length rows) i → get_or rows i None ≡ Some v → IsGreatest rows v
+pub greatest-value : (rows : List (Option Value)) (i : ℕ) (v : Value) → GreatestOf rows (length rows) i → get_or rows i None ≡ Some v → IsGreatestValue rows v
 greatest-value rows i v h e =
     record {
       among = held rows i v h.within e;
@@ -121,13 +122,8 @@ equal-none n row h =
     record { null = λ j m. get_or-replicate n j row None (omega (arith, m, length-replicate n row)) ∙ h (omega (arith, m, length-replicate n row)) }
 
 -- so the first place is that of both extreme values
-pub first-least : (n : ℕ) (row : Option Value) (place : Option ℕ) → FirstValue n row place → LeastBelow (replicate n row) (length (replicate n row)) place
-first-least n row None h = equal-none n row h
-first-least n row (Some i) h = rw h.0 (equal-least n row h.1 h.2)
-
-pub first-greatest : (n : ℕ) (row : Option Value) (place : Option ℕ) → FirstValue n row place → GreatestBelow (replicate n row) (length (replicate n row)) place
-first-greatest n row None h = equal-none n row h
-first-greatest n row (Some i) h = rw h.0 (equal-greatest n row h.1 h.2)
+pub first-extremes : (n : ℕ) (row : Option Value) (i : ℕ) → FirstValue n row (Some i) → ExtremesOf (replicate n row) (length (replicate n row)) i i
+first-extremes n row i h = rw h.0 (record { least = equal-least n row h.1 h.2; greatest = equal-greatest n row h.1 h.2 })
 
 some-value : (row : Option Value) → is_some row ≡ true → (v : Value) × (row ≡ Some v)
 some-value None s = absurd (false≢true s)

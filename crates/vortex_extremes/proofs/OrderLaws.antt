@@ -1,22 +1,22 @@
 -- The order of rows, as a part of an order of all rows of all types.
-use Rattle.std.proofs.Common.{ℕ, zero, suc, inl, inr, ◌<◌, ◌≤◌, ◌≡◌, ◌+◌, ◌-◌, Bool, true, false, cond, List, [], ◌∷◌, length, get_or, refl, sym, ap, ◌∙◌, arith, Option, Some, None}
-use Rattle.std.specs.Prelude.{ℤ, pos, IsTrue, IsFalse, is_some, unwrap_or, ◌⊎◌}
+use Rattle.std.proofs.Common.{ℕ, zero, suc, inl, inr, ◌<◌, ◌≤◌, ◌≡◌, ◌+◌, ◌-◌, true, false, cond, List, [], ◌∷◌, length, get_or, refl, sym, ap, ◌∙◌, arith, Option, Some, None}
+use Rattle.std.specs.Prelude.{ℤ, pos, IsTrue, is_some, unwrap_or, ◌⊎◌}
 use Rattle.std.specs.declared.cmp.Ordering.{Ordering}
 use Rattle.std.specs.declared.cmp.Ordering.TheVariants.{Less, Equal, Greater}
-use Rattle.std.specs.Ordering.{is_some_and, is_eq, is_lt, is_le, is_gt, nat_cmp, int_cmp, bool_cmp, ordering_then, ordering_reverse, then_cmp, on}
+use Rattle.std.specs.Ordering.{is_some_and, is_eq, is_lt, is_le, is_gt, nat_cmp, int_cmp, ordering_then, ordering_reverse, then_cmp, on}
 use Rattle.std.specs.Cmp.{IsTotalOrder}
 use Rattle.std.specs.Cmp.Lexicographic.{slice_cmp}
 use Rattle.std.proofs.lemmas.Bool.{cases_lt, false≢true, true≢false}
 use Rattle.std.proofs.lemmas.Cmp.{upto, tied_itself, nat_cmp_total, int_cmp_total, nat_list_cmp_total, on_total, then_total}
 use Rattle.std.proofs.lemmas.List.{get_or_default}
 use Rattle.std.proofs.lemmas.Map.Lookups.{exact_bytes, exact_signed}
-use Rattle.vortex_types.specs.Order.{row_cmp, value_cmp}
+use Rattle.vortex_types.specs.Order.{row_cmp}
 use Rattle.vortex_types.specs.Row.{fits_type, value_fits}
 use Rattle.vortex_types.specs.declared.types.DType.{DType}
 use Rattle.vortex_types.specs.declared.types.DType.TheVariants as dtype
 use Rattle.vortex_types.specs.declared.scalar.Value.{Value}
 use Rattle.vortex_types.specs.declared.scalar.Value.TheVariants.{Bool as Truth, Int, Decimal, Utf8, Binary}
-use Rattle.vortex_extremes.specs.InOrder.{IsConstant, at_most, below}
+use Rattle.vortex_extremes.specs.InOrder.{IsConstant, at_most}
 
 -- a number for null and each kind of values
 abbrev pub kind : Option Value → ℕ

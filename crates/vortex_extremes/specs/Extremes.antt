@@ -1,29 +1,19 @@
 -- The least and the greatest value of a column.
-use Rattle.std.specs.Prelude.{◌≡◌, ◌<◌, ℕ, Bool, true, IsTrue, List, length, All, Contains, Option, Some, None, is_some, slice_index_or}
+use Rattle.std.specs.Prelude.{◌≡◌, ◌<◌, ℕ, true, IsTrue, List, All, Contains, Option, Some, None, is_some, slice_index_or}
 use Rattle.vortex_types.specs.Order.{compares}
 use Rattle.vortex_types.specs.Row.{Column, TypedRow}
+use Rattle.vortex_types.specs.Widths.{full_form}
 use Rattle.vortex_types.specs.declared.scalar.Value.{Value}
-use Rattle.vortex_types.specs.declared.types.DType.{DType}
-use Rattle.vortex_types.specs.declared.types.DType.TheVariants as dtype
-use Rattle.vortex_types.specs.declared.types.Nullability.TheVariants.{NonNullable}
 use Rattle.vortex_compute.specs.declared.compare.CompareOperator.TheVariants.{Lte}
 use Rattle.vortex_extremes.specs.InOrder.{at_most}
 
--- the same type, without nulls
-abbrev pub full_form : DType → DType
-full_form (dtype.Bool n) = dtype.Bool NonNullable
-full_form (dtype.Primitive width n) = dtype.Primitive width NonNullable
-full_form (dtype.Decimal d n) = dtype.Decimal d NonNullable
-full_form (dtype.Utf8 n) = dtype.Utf8 NonNullable
-full_form (dtype.Binary n) = dtype.Binary NonNullable
-
 -- the value is a row, and every row that is a value is at least it
-pub record IsLeast (rows : List (Option Value)) (v : Value) : Type 0 where
+pub record IsLeastValue (rows : List (Option Value)) (v : Value) : Type 0 where
   pub among : Contains rows (Some v)
   pub bound : (w : Value) → Contains rows (Some w) → IsTrue (compares Lte v w)
 
 -- the value is a row, and every row that is a value is at most it
-pub record IsGreatest (rows : List (Option Value)) (v : Value) : Type 0 where
+pub record IsGreatestValue (rows : List (Option Value)) (v : Value) : Type 0 where
   pub among : Contains rows (Some v)
   pub bound : (w : Value) → Contains rows (Some w) → IsTrue (compares Lte w v)
 
@@ -31,8 +21,8 @@ pub record IsGreatest (rows : List (Option Value)) (v : Value) : Type 0 where
 pub record AreExtremes (c : Column) (min max : TypedRow) : Type 0 where
   pub min_type : min.dtype ≡ full_form c.dtype
   pub max_type : max.dtype ≡ full_form c.dtype
-  pub least : (v : Value) × (min.value ≡ Some v) × IsLeast c.rows v
-  pub greatest : (v : Value) × (max.value ≡ Some v) × IsGreatest c.rows v
+  pub least : (v : Value) × (min.value ≡ Some v) × IsLeastValue c.rows v
+  pub greatest : (v : Value) × (max.value ≡ Some v) × IsGreatestValue c.rows v
 
 -- no row is a value
 abbrev pub HasNoValue : List (Option Value) → Type 0
@@ -50,16 +40,11 @@ pub record GreatestOf (rows : List (Option Value)) (n i : ℕ) : Type 0 where
   pub some : is_some (slice_index_or rows i None) ≡ true
   pub bound : (j : ℕ) → j < n → IsTrue (at_most (slice_index_or rows j None) (slice_index_or rows i None))
 
+-- of the first n rows those at the places are the least and the greatest value
+pub record ExtremesOf (rows : List (Option Value)) (n i j : ℕ) : Type 0 where
+  pub least : LeastOf rows n i
+  pub greatest : GreatestOf rows n j
+
 -- none of the first n rows is a value
 pub record NoneOf (rows : List (Option Value)) (n : ℕ) : Type 0 where
   pub null : (j : ℕ) → j < n → slice_index_or rows j None ≡ None
-
--- the place of the least value of the first n rows, or none
-abbrev pub LeastBelow : List (Option Value) → ℕ → Option ℕ → Type 0
-LeastBelow rows n None = NoneOf rows n
-LeastBelow rows n (Some i) = LeastOf rows n i
-
--- the place of the greatest value of the first n rows, or none
-abbrev pub GreatestBelow : List (Option Value) → ℕ → Option ℕ → Type 0
-GreatestBelow rows n None = NoneOf rows n
-GreatestBelow rows n (Some i) = GreatestOf rows n i

@@ -1,4 +1,4 @@
 pub mod InOrder
+pub mod Nulls
 pub mod Extremes
 pub mod Asked
-pub mod Standing

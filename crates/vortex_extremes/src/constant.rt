@@ -1,10 +1,10 @@
 // Columns of equal rows, whose order is known from how many there are.
-ghost use Rattle.std.specs.Prelude.{◌↔◌, IsTrue};
+ghost use Rattle.std.specs.Prelude.{◌↔◌, IsTrue, length};
 ghost use Rattle.vortex_columns.specs.Kinds.{constant_column};
-ghost use Rattle.vortex_extremes.specs.Asked.{ExtremePlace, FirstValue, Holds};
+ghost use Rattle.vortex_extremes.specs.Asked.{ExtremesBelow, FirstValue, Holds};
 
 use crate::order::RowOrder;
-use crate::places::Extreme;
+use crate::places::ExtremePlaces;
 use vortex_columns::ConstantArray;
 
 /// Whether equal rows stand in the order that is asked for.
@@ -19,13 +19,16 @@ pub fn equal_rows_are(array: &ConstantArray, order: RowOrder) -> bool
     }
 }
 
-/// The place of an extreme value of equal rows, the first one, or none where no row is a value.
-pub fn equal_rows_place(array: &ConstantArray, extreme: Extreme) -> Option<usize>
-    ensures { ExtremePlace extreme (constant_column array.now).rows result }
+/// The places of the least and of the greatest of equal rows, both the first one, or none where no row is a value.
+pub fn equal_rows_extremes(array: &ConstantArray) -> Option<ExtremePlaces>
+    ensures { ExtremesBelow (constant_column array.now).rows (length (constant_column array.now).rows) result }
 {
-    match extreme {
-        Extreme::Least => first_value(array),
-        Extreme::Greatest => first_value(array),
+    match first_value(array) {
+        None => None,
+        Some(place) => Some(ExtremePlaces {
+            least: place,
+            greatest: place,
+        }),
     }
 }
 

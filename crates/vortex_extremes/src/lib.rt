@@ -1,15 +1,23 @@
 //! The order of a column's rows: whether they are equal or in order, and their least and greatest values, for each kind
-//! of column. One loop each, over rows that are compared two at a time.
+//! of column. A null is below every value, so the validity says where the values begin, and one loop goes over them alone.
 #![tactic(auto)]
 
 mod constant;
-mod lent;
+mod decimals;
+mod nulls;
 mod numbers;
 mod order;
 mod places;
+mod texts;
+mod truths;
 
-pub use constant::{equal_rows_are, equal_rows_place};
-pub use lent::{bools_are, bools_place, decimals_are, decimals_place, texts_are, texts_place};
-pub use numbers::{numbers_are, numbers_place};
+pub use constant::{equal_rows_are, equal_rows_extremes};
+pub use decimals::{decimal_extremes, decimals_are};
+pub use numbers::{number_extremes, numbers_are};
 pub use order::RowOrder;
-pub use places::Extreme;
+pub use places::ExtremePlaces;
+pub use texts::{text_extremes, texts_are};
+pub use truths::{truth_extremes, truths_are};
+
+#[cfg(test)]
+mod tests;

@@ -1,56 +1,36 @@
-// Columns of whole numbers: their native numbers are compared, with no value made for a row.
+// Columns of whole numbers: their native items are compared, with no value made for a row.
 ghost use Rattle.std.specs.Prelude.{◌≡◌, ◌↔◌, IsTrue, length, map};
-ghost use Rattle.std.specs.Ordering.{int_cmp};
 ghost use Rattle.vortex_types.specs.declared.scalar.Value.TheVariants as values;
 ghost use Rattle.vortex_columns.specs.Kinds.{primitive_column};
 ghost use Rattle.vortex_columns.specs.Validities.{is_as_long, rows_under};
-ghost use Rattle.vortex_extremes.specs.Asked.{ExtremePlace, Holds};
-ghost use Rattle.vortex_extremes.specs.Standing.{standing};
+ghost use Rattle.vortex_extremes.specs.Asked.{ExtremesBelow, Holds};
 
+use crate::nulls::nulls_first;
 use crate::order::{OrderedRows, RowOrder, are_ordered};
-use crate::places::{Extreme, extreme_place};
+use crate::places::{ExtremePlaces, extreme_places};
 use std::cmp::Ordering;
 use vortex_buffer::Buffer;
 use vortex_columns::{PrimitiveArray, PrimitiveBuffer, Validity};
-use vortex_types::NativeValue;
+use vortex_types::NativeOrder;
 
 // Numbers of one width, of which those are rows that are valid. The others are null.
 #[derive(Drop)]
-struct Numbers<'a, T: NativeValue> {
+struct Numbers<'a, T: NativeOrder> {
     items: &'a [T],
     validity: &'a Validity,
     ghost long: { IsTrue (is_as_long validity.now (length items.now)) },
 }
 
-// How two rows stand to one another whose values stand so.
-#[inline(always)]
-fn standing_of(first: bool, second: bool, order: Ordering) -> Ordering
-    ensures { result ≡ standing first second order }
-{
-    match (first, second) {
-        (true, true) => order,
-        (true, false) => Ordering::Greater,
-        (false, true) => Ordering::Less,
-        (false, false) => Ordering::Equal,
-    }
-}
-
-// How the numbers of two items stand to one another.
-#[inline(always)]
-fn compare_items<T: NativeValue>(first: T, second: T) -> Ordering
-    ensures { result ≡ int_cmp (T.number first) (T.number second) }
-{
-    let first = first.value();
-    let second = second.value();
-    first.cmp(&second)
-}
-
-impl<T: NativeValue> OrderedRows for Numbers<'_, T> {
+impl<T: NativeOrder> OrderedRows for Numbers<'_, T> {
     ghost rows = { λ s. rows_under s.validity.now (map (λ n. values.Int n) (map T.number s.items.now)) };
 
     #[inline(always)]
     fn count(&self) -> usize {
         self.items.len()
+    }
+
+    fn nulls_first(&self) -> Option<usize> {
+        nulls_first(self.validity, self.items.len())
     }
 
     #[inline(always)]
@@ -60,13 +40,12 @@ impl<T: NativeValue> OrderedRows for Numbers<'_, T> {
 
     #[inline(always)]
     fn compare(&self, i: usize, j: usize) -> Ordering {
-        let order = compare_items(self.items[i], self.items[j]);
-        standing_of(self.validity.is_valid(i), self.validity.is_valid(j), order)
+        self.items[i].cmp(&self.items[j])
     }
 }
 
 // Whether the rows of numbers of one width stand in the order that is asked for.
-fn items_are<T: NativeValue>(items: &Buffer<T>, validity: &Validity, order: RowOrder) -> bool
+fn items_are<T: NativeOrder>(items: &Buffer<T>, validity: &Validity, order: RowOrder) -> bool
     requires { IsTrue (is_as_long validity.now (length (map T.number items.now))) }
     ensures { IsTrue result ↔ Holds order (rows_under validity.now (map (λ n. values.Int n) (map T.number items.now))) }
 {
@@ -90,31 +69,27 @@ pub fn numbers_are(array: &PrimitiveArray, order: RowOrder) -> bool
     }
 }
 
-// The place of an extreme value of numbers of one width, or none where no row is a value.
-fn items_place<T: NativeValue>(
-    items: &Buffer<T>,
-    validity: &Validity,
-    extreme: Extreme,
-) -> Option<usize>
+// The places of the least and of the greatest of numbers of one width, or none where no row is a value.
+fn items_extremes<T: NativeOrder>(items: &Buffer<T>, validity: &Validity) -> Option<ExtremePlaces>
     requires { IsTrue (is_as_long validity.now (length (map T.number items.now))) }
-    ensures { ExtremePlace extreme (rows_under validity.now (map (λ n. values.Int n) (map T.number items.now))) result }
+    ensures { ExtremesBelow (rows_under validity.now (map (λ n. values.Int n) (map T.number items.now))) (length (rows_under validity.now (map (λ n. values.Int n) (map T.number items.now)))) result }
 {
     let items = items.as_slice();
-    extreme_place(&Numbers { items, validity }, extreme)
+    extreme_places(&Numbers { items, validity })
 }
 
-/// The place of an extreme value of a column of whole numbers, or none where no row is a value.
-pub fn numbers_place(array: &PrimitiveArray, extreme: Extreme) -> Option<usize>
-    ensures { ExtremePlace extreme (primitive_column array.now).rows result }
+/// The places of the least and of the greatest of a column of whole numbers, or none where no row is a value.
+pub fn number_extremes(array: &PrimitiveArray) -> Option<ExtremePlaces>
+    ensures { ExtremesBelow (primitive_column array.now).rows (length (primitive_column array.now).rows) result }
 {
     match array.values() {
-        PrimitiveBuffer::U8(items) => items_place(items, array.validity(), extreme),
-        PrimitiveBuffer::U16(items) => items_place(items, array.validity(), extreme),
-        PrimitiveBuffer::U32(items) => items_place(items, array.validity(), extreme),
-        PrimitiveBuffer::U64(items) => items_place(items, array.validity(), extreme),
-        PrimitiveBuffer::I8(items) => items_place(items, array.validity(), extreme),
-        PrimitiveBuffer::I16(items) => items_place(items, array.validity(), extreme),
-        PrimitiveBuffer::I32(items) => items_place(items, array.validity(), extreme),
-        PrimitiveBuffer::I64(items) => items_place(items, array.validity(), extreme),
+        PrimitiveBuffer::U8(items) => items_extremes(items, array.validity()),
+        PrimitiveBuffer::U16(items) => items_extremes(items, array.validity()),
+        PrimitiveBuffer::U32(items) => items_extremes(items, array.validity()),
+        PrimitiveBuffer::U64(items) => items_extremes(items, array.validity()),
+        PrimitiveBuffer::I8(items) => items_extremes(items, array.validity()),
+        PrimitiveBuffer::I16(items) => items_extremes(items, array.validity()),
+        PrimitiveBuffer::I32(items) => items_extremes(items, array.validity()),
+        PrimitiveBuffer::I64(items) => items_extremes(items, array.validity()),
     }
 }

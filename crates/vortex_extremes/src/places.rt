@@ -1,85 +1,121 @@
-// The places of the least and the greatest value.
-ghost use Rattle.std.specs.Prelude.{◌<◌, ◌+◌, length};
-ghost use Rattle.vortex_extremes.specs.Extremes.{GreatestBelow, LeastBelow};
-ghost use Rattle.vortex_extremes.specs.Asked.{ExtremePlace};
+// The places of the least and the greatest value, in one pass.
+ghost use Rattle.std.specs.Prelude.{◌≡◌, ◌<◌, ◌+◌, None, is_some, length, map, slice_index_or, true};
+ghost use Rattle.vortex_extremes.specs.Extremes.{ExtremesOf, GreatestOf, LeastOf};
+ghost use Rattle.vortex_extremes.specs.Nulls.{NullsFirst};
+ghost use Rattle.vortex_extremes.specs.Asked.{ExtremesBelow};
 
 use crate::order::OrderedRows;
 
-/// Which extreme value of a column.
+/// The places of the least and of the greatest value of a column.
 #[derive(Clone, Copy, Debug, PartialEq, Eq)]
-pub enum Extreme {
-    /// The least one.
-    Least,
-    /// The greatest one.
-    Greatest,
+pub struct ExtremePlaces {
+    /// The place of the least value.
+    pub least: usize,
+    /// The place of the greatest value.
+    pub greatest: usize,
 }
 
-/// The place of an extreme value, or none where no row is a value.
-pub(crate) fn extreme_place<R: OrderedRows>(rows: &R, extreme: Extreme) -> Option<usize>
-    ensures { ExtremePlace extreme (R.rows rows.now) result }
+/// The places of the least and of the greatest value, or none where no row is a value.
+pub(crate) fn extreme_places<R: OrderedRows>(rows: &R) -> Option<ExtremePlaces>
+    ensures { ExtremesBelow (R.rows rows.now) (length (R.rows rows.now)) result }
 {
-    match extreme {
-        Extreme::Least => least_place(rows),
-        Extreme::Greatest => greatest_place(rows),
+    match rows.nulls_first() {
+        None => places_among(rows),
+        Some(nulls) => places_behind(rows, nulls),
     }
 }
 
-// The place of the least value, or none where no row is a value.
-fn least_place<R: OrderedRows>(rows: &R) -> Option<usize>
-    ensures { LeastBelow (R.rows rows.now) (length (R.rows rows.now)) result }
+// The places where only so many rows at the front are null: the values behind them are compared alone.
+fn places_behind<R: OrderedRows>(rows: &R, nulls: usize) -> Option<ExtremePlaces>
+    requires { NullsFirst (map is_some (R.rows rows.now)) nulls }
+    ensures { ExtremesBelow (R.rows rows.now) (length (R.rows rows.now)) result }
 {
-    let mut least = None;
+    let len = rows.count();
+    if nulls == len {
+        return None;
+    }
+    let mut found = ExtremePlaces {
+        least: nulls,
+        greatest: nulls,
+    };
+    for i in nulls + 1..len {
+        found = with_value(rows, found, i);
+    }
+    Some(found)
+}
+
+// The places where any row may be null.
+fn places_among<R: OrderedRows>(rows: &R) -> Option<ExtremePlaces>
+    ensures { ExtremesBelow (R.rows rows.now) (length (R.rows rows.now)) result }
+{
+    let mut found = None;
     for i in 0..rows.count() {
-        least = lesser(rows, least, i);
+        found = with_next(rows, found, i);
     }
-    least
+    found
 }
 
-// The place of the lesser of the least value so far and the next row.
+// The places with one more row, which counts where it is a value.
 #[inline(always)]
-fn lesser<R: OrderedRows>(rows: &R, least: Option<usize>, i: usize) -> Option<usize>
+fn with_next<R: OrderedRows>(
+    rows: &R,
+    found: Option<ExtremePlaces>,
+    i: usize,
+) -> Option<ExtremePlaces>
     requires inside { i < length (R.rows rows.now) }
-    requires least { LeastBelow (R.rows rows.now) i least }
-    ensures { LeastBelow (R.rows rows.now) (i + 1) result }
+    requires found { ExtremesBelow (R.rows rows.now) i found }
+    ensures { ExtremesBelow (R.rows rows.now) (i + 1) result }
 {
-    match least {
-        None => { if rows.is_value(i) { Some(i) } else { None } }
-        Some(place) => {
-            if rows.is_value(i) && rows.compare(i, place).is_lt() {
-                Some(i)
-            } else {
-                Some(place)
-            }
-        }
+    if !rows.is_value(i) {
+        return found;
+    }
+    match found {
+        None => Some(ExtremePlaces {
+            least: i,
+            greatest: i,
+        }),
+        Some(found) => Some(with_value(rows, found, i)),
     }
 }
 
-// The place of the greatest value, or none where no row is a value.
-fn greatest_place<R: OrderedRows>(rows: &R) -> Option<usize>
-    ensures { GreatestBelow (R.rows rows.now) (length (R.rows rows.now)) result }
-{
-    let mut greatest = None;
-    for i in 0..rows.count() {
-        greatest = greater(rows, greatest, i);
-    }
-    greatest
-}
-
-// The place of the greater of the greatest value so far and the next row. A null is below every value.
+// The places with one more value.
 #[inline(always)]
-fn greater<R: OrderedRows>(rows: &R, greatest: Option<usize>, i: usize) -> Option<usize>
+fn with_value<R: OrderedRows>(rows: &R, found: ExtremePlaces, i: usize) -> ExtremePlaces
     requires inside { i < length (R.rows rows.now) }
-    requires greatest { GreatestBelow (R.rows rows.now) i greatest }
-    ensures { GreatestBelow (R.rows rows.now) (i + 1) result }
+    requires value { is_some (slice_index_or (R.rows rows.now) i None) ≡ true }
+    requires found { ExtremesOf (R.rows rows.now) i found.least found.greatest }
+    ensures { ExtremesOf (R.rows rows.now) (i + 1) result.least result.greatest }
 {
-    match greatest {
-        None => { if rows.is_value(i) { Some(i) } else { None } }
-        Some(place) => {
-            if rows.compare(i, place).is_gt() {
-                Some(i)
-            } else {
-                Some(place)
-            }
-        }
+    ExtremePlaces {
+        least: lesser(rows, found.least, i),
+        greatest: greater(rows, found.greatest, i),
     }
+}
+
+// The place of the lesser of the least value so far and the next one.
+#[inline(always)]
+fn lesser<R: OrderedRows>(rows: &R, place: usize, i: usize) -> usize
+    requires inside { i < length (R.rows rows.now) }
+    requires value { is_some (slice_index_or (R.rows rows.now) i None) ≡ true }
+    requires least { LeastOf (R.rows rows.now) i place }
+    ensures { LeastOf (R.rows rows.now) (i + 1) result }
+{
+    if rows.compare(i, place).is_lt() {
+        return i;
+    }
+    place
+}
+
+// The place of the greater of the greatest value so far and the next one.
+#[inline(always)]
+fn greater<R: OrderedRows>(rows: &R, place: usize, i: usize) -> usize
+    requires inside { i < length (R.rows rows.now) }
+    requires value { is_some (slice_index_or (R.rows rows.now) i None) ≡ true }
+    requires greatest { GreatestOf (R.rows rows.now) i place }
+    ensures { GreatestOf (R.rows rows.now) (i + 1) result }
+{
+    if rows.compare(i, place).is_gt() {
+        return i;
+    }
+    place
 }

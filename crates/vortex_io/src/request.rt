@@ -3,6 +3,7 @@ ghost use Rattle.std.specs.Prelude.{◌≡◌};
 
 use super::ids::{IoOwnerId, IoRequestId};
 use std::alloc::{AllocError, AllocFailed};
+use thiserror::Error;
 
 /// How much a request is wanted.
 #[derive(Clone, Copy, Debug, PartialEq, Eq)]
@@ -73,11 +74,13 @@ pub struct Completion<C> {
 }
 
 /// Why a source refused a call.
-#[derive(Clone, Copy, Debug, PartialEq, Eq)]
+#[derive(Clone, Copy, Debug, PartialEq, Eq, Error)]
 pub enum IoError {
     /// The source failed, and counted it.
+    #[error("the source failed")]
     Fault,
     /// There was not enough memory.
+    #[error("out of memory")]
     OutOfMemory,
 }
 

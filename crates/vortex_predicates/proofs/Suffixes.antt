@@ -1,9 +1,11 @@
 -- Matching some suffix of a text.
 use Rattle.std.proofs.Common.{◌≡◌, ◌∙◌, sym, refl, ap, ℕ, List, [], ◌∷◌, Bool, true, false, ◌||◌, ◌&&◌}
-use Rattle.vortex_types.specs.Matches.{some_suffix, first_then}
+use Rattle.vortex_types.specs.Matches.{some_suffix, first_then, matches_chars}
 use Rattle.vortex_predicates.specs.declared.like.Element.{Element}
 use Rattle.vortex_predicates.specs.declared.like.Element.TheVariants.{AnyRun, AnyOne, Exactly}
-use Rattle.vortex_predicates.specs.Outcomes.{asks, passes}
+use Rattle.vortex_predicates.specs.declared.like.Outcome.{Outcome}
+use Rattle.vortex_predicates.specs.declared.like.Outcome.TheVariants.{Whole, Failed, Exhausted, Run}
+use Rattle.vortex_predicates.specs.Outcomes.{asks, passes, settled, Settles}
 
 -- what follows from each of two follows from either
 either : (a b x : Bool) → (a ≡ true → x ≡ true) → (b ≡ true → x ≡ true) → (a || b) ≡ true → x ≡ true
@@ -50,6 +52,53 @@ pub suffix-twice : (f g : List ℕ → Bool) → ((t : List ℕ) → f t ≡ som
 suffix-twice f g h [] e = sym (h []) ∙ e
 suffix-twice f g h (c ∷ t) e =
     either (f (c ∷ t)) (some_suffix f t) (some_suffix g (c ∷ t)) (λ k. sym (h (c ∷ t)) ∙ k) (λ k. later (g (c ∷ t)) (some_suffix g t) (suffix-twice f g h t k)) e
+
+-- the end of a text has no character
+pub suffix-end : (t : List ℕ) → some_suffix (matches_chars []) t ≡ true
+suffix-end [] = refl
+suffix-end (c ∷ t) = suffix-end t
+
+-- suffixes that pass the same test
+pub suffix-same : (f g : List ℕ → Bool) → ((t : List ℕ) → f t ≡ g t) → (t : List ℕ) → some_suffix f t ≡ some_suffix g t
+suffix-same f g h [] = h []
+suffix-same f g h (c ∷ t) = ap (λ b. b || some_suffix f t) (h (c ∷ t)) ∙ ap (λ b. g (c ∷ t) || b) (suffix-same f g h t)
+
+-- a suffix that asks for a suffix asks for one
+pub suffix-run : (f g : List ℕ → Bool) → ((t : List ℕ) → f t ≡ some_suffix g t) → (t : List ℕ) → some_suffix f t ≡ some_suffix g t
+suffix-run f g h t = same _ _ (λ x. suffix-twice f g h t x) (λ x. suffix-whole f t (h t ∙ x))
+
+-- a suffix that passes one character and then the rest has that rest
+suffix-rest : (g : List ℕ → Bool) (test : ℕ → Bool) (t : List ℕ) → some_suffix (first_then test g) t ≡ true → some_suffix g t ≡ true
+suffix-rest g test [] e = let x : false ≡ true = e in cc
+suffix-rest g test (c ∷ t) e =
+    either (test c && g t) (some_suffix (first_then test g) t) (some_suffix g (c ∷ t))
+    (λ k. later (g (c ∷ t)) (some_suffix g t) (suffix-whole g t (second (test c) (g t) k)))
+    (λ k. later (g (c ∷ t)) (some_suffix g t) (suffix-rest g test t k)) e
+
+-- a character that does not pass is passed over
+pub pass-over : (test : ℕ → Bool) (g : List ℕ → Bool) (text rest : List ℕ) (c : ℕ) → text ≡ c ∷ rest → test c ≡ false
+    → some_suffix (first_then test g) text ≡ some_suffix (first_then test g) rest
+pass-over test g text rest c e p = ap (some_suffix (first_then test g)) e ∙ ap (λ b. (b && g rest) || some_suffix (first_then test g) rest) p
+
+-- a character that passes is the first of two ways
+pub pass-here : (test : ℕ → Bool) (g : List ℕ → Bool) (text rest : List ℕ) (c : ℕ) → text ≡ c ∷ rest → test c ≡ true
+    → some_suffix (first_then test g) text ≡ (g rest || some_suffix (first_then test g) rest)
+pass-here test g text rest c e p = ap (some_suffix (first_then test g)) e ∙ ap (λ b. (b && g rest) || some_suffix (first_then test g) rest) p
+
+-- where the rest is told for all later places, it is told behind one more character
+settled-all : (g : List ℕ → Bool) (test : ℕ → Bool) (t : List ℕ) (b : Bool) → g t ≡ b → some_suffix g t ≡ b → (g t || some_suffix (first_then test g) t) ≡ b
+settled-all g test t b here all =
+    same (g t || some_suffix (first_then test g) t) b
+    (λ x. either (g t) (some_suffix (first_then test g) t) b (λ k. sym here ∙ k) (λ k. sym all ∙ suffix-rest g test t k) x)
+    (λ x. ap (λ y. y || some_suffix (first_then test g) t) (here ∙ x))
+
+-- an outcome that did not fail at the first place where it may come tells of all
+pub settled-here : (g : List ℕ → Bool) (test : ℕ → Bool) (t : List ℕ) (o : Outcome) → (o ≡ Failed → ⊥) → g t ≡ settled o → Settles g t o
+    → (g t || some_suffix (first_then test g) t) ≡ settled o
+settled-here g test t Whole n here all = settled-all g test t true here all
+settled-here g test t Failed n here all = absurd (n refl)
+settled-here g test t Exhausted n here all = settled-all g test t false here all
+settled-here g test t (Run pattern rest) n here all = settled-all g test t (settled (Run pattern rest)) here all
 
 -- an element that takes a character asks for just one
 asks-one : (el : Element) (c : ℕ) → passes el c ≡ true → (g : List ℕ → Bool) (t : List ℕ) → asks el g t ≡ first_then (passes el) g t

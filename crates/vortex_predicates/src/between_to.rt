@@ -2,11 +2,10 @@
 ghost use Rattle.std.specs.Prelude.{◌≡◌, ◌≢◌, None};
 ghost use Rattle.vortex_types.specs.Truth.{lower_operator, upper_operator};
 
-use crate::order::compares;
 use crate::predicate::Predicate;
 use std::marker::Model;
 use vortex_compute::CompareOperator;
-use vortex_types::{BetweenOptions, Scalar, StrictComparison, ValueRef};
+use vortex_types::{BetweenOptions, Scalar, StrictComparison, ValueRef, compares};
 
 /// The test whether a value lies between two constants, each of which is left out where its option is strict. A value of
 /// another kind than a constant's never does.
@@ -51,7 +50,7 @@ impl Predicate for BetweenTo {
 
     fn test(&mut self, value: ValueRef<'_>) -> bool {
         self.asked = self.asked.saturating_add(1);
-        match (self.lower.value(), self.upper.value()) {
+        match (self.lower.value_ref(), self.upper.value_ref()) {
             (Some(lower), Some(upper)) => {
                 compares(above(self.options.lower_strict), value, lower)
                     && compares(below(self.options.upper_strict), value, upper)

@@ -1,11 +1,10 @@
 // Comparisons with a constant.
 ghost use Rattle.std.specs.Prelude.{◌≡◌, ◌≢◌, None};
 
-use crate::order::compares;
 use crate::predicate::Predicate;
 use std::marker::Model;
 use vortex_compute::CompareOperator;
-use vortex_types::{Scalar, ValueRef};
+use vortex_types::{Scalar, ValueRef, compares};
 
 /// The test whether a value stands so to a constant. A value of another kind than the constant's never does.
 #[derive(Drop)]
@@ -46,7 +45,7 @@ impl Predicate for CompareTo {
 
     fn test(&mut self, value: ValueRef<'_>) -> bool {
         self.asked = self.asked.saturating_add(1);
-        match self.constant.value() {
+        match self.constant.value_ref() {
             Some(constant) => compares(self.operator, value, constant),
             None => false,
         }

@@ -7,14 +7,12 @@ mod between_to;
 mod compare_to;
 mod like;
 mod like_to;
-mod order;
 mod predicate;
 #[cfg(test)]
 mod tests;
 
 pub use between_to::BetweenTo;
 pub use compare_to::CompareTo;
-pub use like::LikePattern;
+pub use like::{LikePattern, text_matches};
 pub use like_to::LikeTo;
-pub use order::{accepts, compare, compares};
 pub use predicate::Predicate;

@@ -1,10 +1,11 @@
 // Patterns of `like`.
 //
 // The elements before a pattern's first `%` have to match the front of the text. Those between one `%` and the next are
-// then looked for, from place to place: where they are found first is as good as anywhere, since what follows is a `%`,
-// which takes up any characters. So no earlier choice is ever changed, and the work is at most the product of both lengths.
-ghost use Rattle.std.specs.Prelude.{◌≡◌, ℕ, ◌<◌, ◌≤◌, List, [], ◌∷◌, length, chars, IfOk, IfNone, IfSome};
-ghost use Rattle.vortex_types.specs.Matches.{matches as is_match, matches_chars, some_suffix};
+// then looked for, at each place whose character the first of them takes: where they are found first is as good as
+// anywhere, since what follows is a `%`, which takes up any characters. So no earlier choice is ever changed, and the work
+// is at most the product of both lengths. Behind the last `%` of a pattern no character of the text is looked at.
+ghost use Rattle.std.specs.Prelude.{◌≡◌, ℕ, ◌<◌, ◌≤◌, List, Bool, false, [], ◌∷◌, ◌||◌, length, chars, IfOk, IfNone, IfSome};
+ghost use Rattle.vortex_types.specs.Matches.{first_then, matches as is_match, matches_chars, some_suffix};
 ghost use Rattle.vortex_predicates.specs.Outcomes.{asks, left_over, passes, settled, Settles};
 
 use std::alloc::{AllocError, Global};
@@ -39,12 +40,20 @@ impl LikePattern {
     pub fn matches(&self, text: &str) -> bool
         ensures { result ≡ is_match self.now text.now }
     {
-        let mut outcome = match_front(self.text.as_str(), text);
-        while let Outcome::Run(pattern, text) = outcome {
-            outcome = match_anywhere(pattern, text);
-        }
-        matches!(outcome, Outcome::Whole)
+        text_matches(text, self.text.as_str())
     }
+}
+
+/// Whether the whole text matches the pattern that a text is, in time at most the product of both lengths. It takes no
+/// memory.
+pub fn text_matches(text: &str, pattern: &str) -> bool
+    ensures { result ≡ is_match pattern.now text.now }
+{
+    let mut outcome = match_front(pattern, text);
+    while let Outcome::Run(pattern, text) = outcome {
+        outcome = match_anywhere(pattern, text);
+    }
+    matches!(outcome, Outcome::Whole)
 }
 
 // What the front of a pattern asks of the front of a text.
@@ -59,7 +68,7 @@ enum Element {
 // How far the elements before a pattern's next `%` match a text.
 #[derive(Clone, Copy)]
 enum Outcome<'a> {
-    // They and the text end together.
+    // They match, and nothing more is asked.
     Whole,
     // They do not match here.
     Failed,
@@ -71,6 +80,7 @@ enum Outcome<'a> {
 
 impl Element {
     // Whether this one character passes.
+    #[inline(always)]
     fn passes(&self, c: char) -> bool
         ensures { result ≡ passes self.now c }
     {
@@ -83,6 +93,7 @@ impl Element {
 }
 
 // The first character of a text, and the text behind it.
+#[inline(always)]
 fn split_first(text: &str) -> Option<(char, &str)>
     ensures ended { IfNone result (chars text.now ≡ []) }
     ensures first { IfSome result (λ p. chars text.now ≡ p.0 ∷ chars p.1.now) }
@@ -94,6 +105,7 @@ fn split_first(text: &str) -> Option<(char, &str)>
 }
 
 // The first element of a pattern, and the pattern behind it.
+#[inline(always)]
 fn split_element(pattern: &str) -> Option<(Element, &str)>
     ensures ended { IfNone result (chars pattern.now ≡ []) }
     ensures first { IfSome result (λ p. (t : List ℕ) → matches_chars (chars pattern.now) t ≡ asks p.0 (matches_chars (chars p.1.now)) t) }
@@ -142,20 +154,53 @@ fn match_front<'a>(pattern: &'a str, text: &'a str) -> Outcome<'a>
     }
 }
 
-// How far the elements before the pattern's first `%` match at the first place of the text where they do.
+// The text behind its first character that the element takes, none where it takes none of them.
+#[inline(always)]
+fn behind_first(element: Element, text: &str) -> Option<&str>
+    ensures none { IfNone result ((behind : List ℕ → Bool) → some_suffix (first_then (passes element) behind) (chars text.now) ≡ false) }
+    ensures found { IfSome result (λ rest. (behind : List ℕ → Bool) → some_suffix (first_then (passes element) behind) (chars text.now) ≡ (behind (chars rest.now) || some_suffix (first_then (passes element) behind) (chars rest.now))) }
+    ensures shorter { IfSome result (λ rest. length rest.now < length text.now) }
+{
+    let mut text = text;
+    while let Some((c, rest)) = split_first(text) {
+        if element.passes(c) {
+            return Some(rest);
+        }
+        text = rest;
+    }
+    None
+}
+
+// How far an element that takes one character, and those behind it up to the pattern's next `%`, match at the first place
+// of the text where they do.
+#[inline(always)]
+fn match_from_places<'a>(element: Element, behind: &'a str, text: &'a str) -> Outcome<'a>
+    ensures answer { some_suffix (first_then (passes element) (matches_chars (chars behind.now))) (chars text.now) ≡ settled result }
+    ensures shorter { left_over result ≤ length behind.now }
+{
+    let mut text = text;
+    while let Some(rest) = behind_first(element, text) {
+        let outcome = match_front(behind, rest);
+        if !matches!(outcome, Outcome::Failed) {
+            return outcome;
+        }
+        text = rest;
+    }
+    Outcome::Failed
+}
+
+// How far the elements before the pattern's first `%` match at the first place of the text where they do. A pattern
+// without an element is met by the end of any text.
+#[inline(always)]
 fn match_anywhere<'a>(pattern: &'a str, text: &'a str) -> Outcome<'a>
     ensures answer { some_suffix (matches_chars (chars pattern.now)) (chars text.now) ≡ settled result }
     ensures shorter { left_over result ≤ length pattern.now }
 {
-    let mut text = text;
-    loop {
-        let outcome = match_front(pattern, text);
-        if !matches!(outcome, Outcome::Failed) {
-            return outcome;
-        }
-        let Some((_, rest)) = split_first(text) else {
-            return Outcome::Failed;
-        };
-        text = rest;
+    let Some((element, behind)) = split_element(pattern) else {
+        return Outcome::Whole;
+    };
+    match element {
+        Element::AnyRun => Outcome::Run(behind, text),
+        Element::AnyOne | Element::Exactly(_) => match_from_places(element, behind, text),
     }
 }

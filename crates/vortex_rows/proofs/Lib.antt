@@ -3,5 +3,5 @@ pub mod Slices
 pub mod Taken
 pub mod KeptWords
 pub mod Pieces
-pub mod Ordered
+pub mod FirstSet
 pub mod PackedBits

@@ -2,5 +2,4 @@ pub mod Kept
 pub mod Taken
 pub mod Rows
 pub mod Pieces
-pub mod Orders
 pub mod Packs

@@ -10,18 +10,16 @@ mod byte_lists;
 mod items;
 mod kept_bits;
 mod kept_items;
-mod orders;
 mod places;
+mod set_bits;
 
 pub use bit_rows::{slice_bits, take_bits, take_bits_or};
 pub use byte_lists::ByteLists;
 pub use items::{slice_items, take_items, take_items_or};
 pub use kept_bits::filter_bits;
 pub use kept_items::filter_items;
-pub use orders::{
-    Extremes, all_equal_items, extreme_items, is_sorted_items, is_strict_sorted_items,
-};
 pub use places::{Place, places_below, set_places_below};
+pub use set_bits::first_set;
 
 #[cfg(test)]
 mod tests;

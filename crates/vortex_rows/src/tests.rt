@@ -1,9 +1,8 @@
 ghost use Rattle.std.specs.Prelude.{◌≡◌, ◌≤◌, IfOk, length};
 
 use crate::{
-    ByteLists, Place, all_equal_items, extreme_items, filter_bits, filter_items, is_sorted_items,
-    is_strict_sorted_items, places_below, set_places_below, slice_bits, slice_items, take_bits,
-    take_bits_or, take_items, take_items_or,
+    ByteLists, Place, filter_bits, filter_items, first_set, places_below, set_places_below,
+    slice_bits, slice_items, take_bits, take_bits_or, take_items, take_items_or,
 };
 use std::alloc::{AllocError, Global};
 use std::test::Fail;
@@ -345,51 +344,30 @@ fn lists_of_bytes_are_sliced_kept_and_taken(rt: HostRuntime) -> Result<(), Fail>
     Ok(())
 }
 
-// The least and the greatest of the numbers whose bit is set in the word.
-fn extremes_where(
-    alloc: Global,
-    numbers: &[i8],
-    word: u64,
-) -> Result<Option<(i8, i8)>, AllocError> {
-    if numbers.len() > 64 {
+// The place of the first bit that is set, of so many bits.
+fn first_of(alloc: Global, words: &[u64; 4], len: usize) -> Result<Option<usize>, AllocError> {
+    if len > 256 {
         return Ok(None);
     }
-    let mask = Mask::from_buffer(bits_of(alloc, &[word, 0, 0, 0], numbers.len())?);
-    if mask.len() != numbers.len() {
-        return Ok(None);
-    }
-    Ok(extreme_items(numbers, &mask).map(|found| (found.least, found.greatest)))
+    let bits = bits_of(alloc, words, len)?;
+    Ok(first_set(&bits))
 }
 
 #[test]
-fn the_least_and_the_greatest_are_those_of_valid_items(rt: HostRuntime) -> Result<(), Fail> {
-    let numbers = [3i8, -7, 127, 0, -128, 5];
-    for (word, expected) in [
-        (0b111111, Some((-128, 127))),
-        (0b000000, None),
-        (0b101011, Some((-7, 5))),
-        (0b010000, Some((-128, -128))),
-        (0b100100, Some((5, 127))),
+fn the_first_bit_that_is_set_is_found_in_any_word(rt: HostRuntime) -> Result<(), Fail> {
+    for (words, len, expected) in [
+        ([0, 0, 0, 0], 0, None),
+        ([1, 0, 0, 0], 0, None),
+        ([1, 0, 0, 0], 1, Some(0)),
+        ([0, 0, 0, 0], 200, None),
+        ([0b1100, 0, 0, 0], 64, Some(2)),
+        ([1 << 63, 1, 0, 0], 65, Some(63)),
+        ([0, 1, 0, 0], 65, Some(64)),
+        ([0, 2, 0, 0], 65, None),
+        ([0, 0, 0, 1 << 63], 256, Some(255)),
     ] {
-        let given = extremes_where(rt.alloc(), numbers.as_slice(), word)?;
-        assert!(rt; given == expected, "{word}");
+        let given = first_of(rt.alloc(), &words, len)?;
+        assert!(rt; given == expected, "{len} bits");
     }
     Ok(())
-}
-
-#[test]
-fn items_are_equal_or_in_order(rt: HostRuntime) {
-    let cases: [(&[i16], bool, bool, bool); 6] = [
-        (&[], true, true, true),
-        (&[-4], true, true, true),
-        (&[2, 2, 2], true, true, false),
-        (&[-3, 0, 0, 9], false, true, false),
-        (&[-3, 0, 9], false, true, true),
-        (&[1, 2, 1], false, false, false),
-    ];
-    for (items, equal, sorted, strict) in cases {
-        assert!(rt; all_equal_items(items) == equal);
-        assert!(rt; is_sorted_items(items) == sorted);
-        assert!(rt; is_strict_sorted_items(items) == strict);
-    }
 }

@@ -1,29 +1,38 @@
 // Why tables and scans are refused.
+use thiserror::Error;
 use vortex_array::Name;
 
 /// Why a description and sources make no table. The first that holds is answered.
-#[derive(Clone, Copy, Debug, PartialEq, Eq)]
+#[derive(Clone, Copy, Debug, PartialEq, Eq, Error)]
 pub enum TableError {
     /// Two columns share a name.
+    #[error("two columns share a name")]
     RepeatedName,
     /// There is not one source for each partition.
+    #[error("there is not one source for each partition")]
     SourceCount,
     /// The first split whose chunks differ from the columns in number, from the split in rows, or from a
     /// column in type, nulls or none included.
+    #[error("the chunks of split {split} of partition {partition} do not fit the columns")]
     ChunkListDoesNotFit { partition: u64, split: u64 },
     /// The rows of the table, or six times its splits and twice its partitions, do not fit 64 bits.
+    #[error("the table has too many rows or splits")]
     TooLarge,
     /// Want of memory.
+    #[error("out of memory")]
     OutOfMemory,
 }
 
 /// Why a scan is refused. The first that holds is answered.
-#[derive(Drop)]
+#[derive(Debug, Drop, Error)]
 pub enum ScanError {
     /// The table or the request is of a form that is not built yet.
+    #[error("the table or the request is of a form that is not built")]
     NotBuilt,
     /// The first name of the request that is not the table's.
+    #[error("no column has the name {name}")]
     InvalidRequest { name: Name },
     /// Want of memory.
+    #[error("out of memory")]
     OutOfMemory,
 }

@@ -8,4 +8,5 @@ pub mod Cells
 pub mod Typed
 pub mod Seen
 pub mod SameNumber
+pub mod NumberOrder
 pub mod Checked

@@ -1,4 +1,5 @@
-use Rattle.std.proofs.Common.{◌≡◌, ℕ, ℤ, pos, ap}
+-- When two natural numbers are the same.
+use Rattle.std.proofs.Common.{◌≡◌, ℕ, pos, ap}
 use Rattle.std.specs.Bool.{Decides}
 use Rattle.std.specs.Cmp.{unsigned_Decides}
 use Rattle.std.specs.Prelude.{nat_eq, unsigned_abs}

@@ -1,8 +1,8 @@
--- The widths of whole numbers.
+-- The widths of whole numbers, and types with nulls and without.
 use Rattle.std.specs.Prelude.{ℕ, ◌^◌, ◌-◌, ℤ, pos, neg_ℤ, Bool, true, false}
 use Rattle.vortex_types.specs.declared.types.PType.{PType}
 use Rattle.vortex_types.specs.declared.types.PType.TheVariants.{U8, U16, U32, U64, I8, I16, I32, I64}
-use Rattle.vortex_types.specs.declared.types.Nullability.TheVariants.{Nullable}
+use Rattle.vortex_types.specs.declared.types.Nullability.TheVariants.{NonNullable, Nullable}
 use Rattle.vortex_types.specs.declared.types.DType.{DType}
 use Rattle.vortex_types.specs.declared.types.DType.TheVariants as dtype
 
@@ -57,3 +57,11 @@ nullable_form (dtype.Primitive width n) = dtype.Primitive width Nullable
 nullable_form (dtype.Decimal d n) = dtype.Decimal d Nullable
 nullable_form (dtype.Utf8 n) = dtype.Utf8 Nullable
 nullable_form (dtype.Binary n) = dtype.Binary Nullable
+
+-- the same type, without nulls
+abbrev pub full_form : DType → DType
+full_form (dtype.Bool n) = dtype.Bool NonNullable
+full_form (dtype.Primitive width n) = dtype.Primitive width NonNullable
+full_form (dtype.Decimal d n) = dtype.Decimal d NonNullable
+full_form (dtype.Utf8 n) = dtype.Utf8 NonNullable
+full_form (dtype.Binary n) = dtype.Binary NonNullable

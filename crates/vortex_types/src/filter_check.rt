@@ -10,14 +10,19 @@ use crate::names::Name;
 use crate::types::DType;
 use sqlite_items::Boxed;
 use std::alloc::{AllocError, Global};
+use thiserror::Error;
 
 /// Why a filter cannot be asked of a table's columns.
-#[derive(PartialEq, Eq, Drop)]
+#[derive(Debug, PartialEq, Eq, Drop, Error)]
 pub enum FilterError {
     /// No column has this name: the first such name of the filter, from left to right.
+    #[error("no column has the name {name}")]
     UnknownColumn { name: Name },
     /// All names are known, and a type rule is broken.
+    #[error("the types do not fit the filter")]
     MismatchedTypes,
+    /// Memory ran out.
+    #[error("out of memory")]
     OutOfMemory,
 }
 

@@ -13,14 +13,16 @@ mod scalar;
 #[cfg(test)]
 mod tests;
 mod types;
+mod value_order;
 mod value_ref;
 
 pub use column::ColumnDesc;
 pub use filter::{BetweenOptions, Filter, Operand, StrictComparison};
 pub use filter_check::FilterError;
 pub use names::{Bytes, Name, Text};
-pub use native::{CodeType, NativeValue};
+pub use native::{CodeType, NativeOrder, NativeValue};
 pub use scalar::{Scalar, Value, WrongType};
 pub use types::{BadPrecision, DType, DecimalDType, Nullability, PType};
+pub use value_order::{accepts, compares};
 pub use value_ref::ValueRef;
 pub use vortex_compute::CompareOperator;

@@ -7,6 +7,7 @@ use crate::names::{Bytes, Text};
 use crate::types::DType;
 use std::alloc::{AllocError, Global};
 use std::marker::Model;
+use thiserror::Error;
 
 /// A value. A decimal's is its unscaled number.
 #[derive(PartialEq, Eq, Drop)]
@@ -34,7 +35,8 @@ impl Value {
 }
 
 /// The value does not fit the type.
-#[derive(Clone, Copy, Debug, PartialEq, Eq)]
+#[derive(Clone, Copy, Debug, PartialEq, Eq, Error)]
+#[error("the value does not fit the type")]
 pub struct WrongType;
 
 /// A value or null, of a type that it fits. Contracts see its type and value.

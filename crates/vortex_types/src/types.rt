@@ -1,11 +1,12 @@
 // The types of values.
 ghost use Rattle.std.specs.Prelude.{◌≡◌, ◌<◌, ◌⊎◌, IsTrue, OnErr, IfOk, IfSome, is_some, int_le, int_lt, not, pos, ◌&&◌};
-ghost use Rattle.vortex_types.specs.Row.{fits_type, in_signed, in_unsigned, in_width, is_nullable as is_nullable_type, value_fits};
+ghost use Rattle.vortex_types.specs.Row.{fits_type, in_signed, in_unsigned, in_width, is_nullable as is_nullable_type, nullability as nullability_of, value_fits};
 ghost use Rattle.vortex_types.specs.Typed.{same_apart_from_nullability as are_same_apart_from_nullability, width_number};
-ghost use Rattle.vortex_types.specs.Widths.{bytes_in, greatest, has_no_sign, least, nullable_form};
+ghost use Rattle.vortex_types.specs.Widths.{bytes_in, full_form, greatest, has_no_sign, least, nullable_form};
 
 use crate::scalar::Value;
 use std::marker::Model;
+use thiserror::Error;
 
 /// A width of whole numbers.
 #[derive(Clone, Copy, Debug, PartialEq, Eq)]
@@ -142,7 +143,8 @@ pub enum Nullability {
 }
 
 /// The precision is 0 or above 38.
-#[derive(Clone, Copy, Debug, PartialEq, Eq)]
+#[derive(Clone, Copy, Debug, PartialEq, Eq, Error)]
+#[error("a decimal has 1 to 38 digits")]
 pub struct BadPrecision;
 
 /// How many digits a decimal has, 1 to 38, and how many of them stand behind the point.
@@ -233,16 +235,39 @@ impl DType {
         }
     }
 
+    /// The same type, without nulls.
+    pub fn into_non_nullable(self) -> DType
+        ensures { result ≡ full_form self }
+    {
+        match self {
+            DType::Bool(_) => DType::Bool(Nullability::NonNullable),
+            DType::Primitive(width, _) => DType::Primitive(width, Nullability::NonNullable),
+            DType::Decimal(digits, _) => DType::Decimal(digits, Nullability::NonNullable),
+            DType::Utf8(_) => DType::Utf8(Nullability::NonNullable),
+            DType::Binary(_) => DType::Binary(Nullability::NonNullable),
+        }
+    }
+
+    /// Whether a column of the type may have nulls.
+    pub fn nullability(&self) -> Nullability
+        ensures { result ≡ nullability_of self.now }
+    {
+        match self {
+            DType::Bool(nulls) => *nulls,
+            DType::Primitive(_, nulls) => *nulls,
+            DType::Decimal(_, nulls) => *nulls,
+            DType::Utf8(nulls) => *nulls,
+            DType::Binary(nulls) => *nulls,
+        }
+    }
+
     /// Whether the type has nulls.
     pub fn is_nullable(&self) -> bool
         ensures { result ≡ is_nullable_type self.now }
     {
-        match self {
-            DType::Bool(n) => *n == Nullability::Nullable,
-            DType::Primitive(_, n) => *n == Nullability::Nullable,
-            DType::Decimal(_, n) => *n == Nullability::Nullable,
-            DType::Utf8(n) => *n == Nullability::Nullable,
-            DType::Binary(n) => *n == Nullability::Nullable,
+        match self.nullability() {
+            Nullability::Nullable => true,
+            Nullability::NonNullable => false,
         }
     }
 

@@ -28,6 +28,19 @@ impl VarBinViewArray {
             present: &self.present,
         }
     }
+
+    /// The column of these lists of bytes, a list for each row, of which these are not null. Texts are UTF-8, and rows of a
+    /// type without nulls are not null. It takes no memory.
+    pub fn from_parts(dtype: DType, lists: ByteLists, present: Vec<bool>) -> VarBinViewArray
+        requires { HoldsBytes dtype lists present.items }
+        ensures { result ≡ record { dtype = dtype; rows = bytes_rows dtype lists present.items } }
+    {
+        VarBinViewArray {
+            dtype,
+            lists,
+            present,
+        }
+    }
 }
 
 /// The validity of rows of a type, of which these are not null.

@@ -3,6 +3,7 @@ ghost use Rattle.std.specs.Prelude.{◌≡◌, ◌<◌, ◌≤◌, length, IfOk,
 ghost use Rattle.vortex_table.specs.Sorted.{DescendsAt, FirstDescent, Increases, IncreasesBelow};
 
 use std::marker::Model;
+use thiserror::Error;
 use vortex_buffer::Buffer;
 
 /// Items in strictly ascending order. Contracts see their list.
@@ -23,7 +24,8 @@ impl<T: Ord + Copy> Model for StrictSortedBuffer<T> {
 }
 
 /// The first neighbours that do not increase strictly.
-#[derive(Clone, Copy, Debug, PartialEq, Eq)]
+#[derive(Clone, Copy, Debug, PartialEq, Eq, Error)]
+#[error("item {second} is not above item {first}")]
 pub struct NotIncreasing {
     pub first: usize,
     pub second: usize,

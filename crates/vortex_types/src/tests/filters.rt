@@ -1,7 +1,7 @@
 // Filters that are checked against columns, and copied.
 use crate::{
     BetweenOptions, ColumnDesc, CompareOperator, DType, Filter, FilterError, Name, Nullability,
-    Operand, PType, Scalar, StrictComparison, Text, Value,
+    Operand, PType, Scalar, StrictComparison, Text, Value, ValueRef,
 };
 use sqlite_items::Boxed;
 use std::alloc::{AllocError, Global};
@@ -65,6 +65,31 @@ fn what_a_check_tells_of_a_filter_and_of_its_copy(rt: HostRuntime) -> Result<(),
             "a copy: {left} and {right}"
         );
     }
+    Ok(())
+}
+
+// Whether a filter asks if a column is above 1.
+fn asks_above_one(filter: &Filter, name: &str) -> bool {
+    match filter {
+        Filter::Compare(CompareOperator::Gt, Operand::Column(column), Operand::Constant(one)) => {
+            column.as_str() == name
+                && one.dtype() == NUMBER
+                && matches!(one.value_ref(), Some(ValueRef::Int(1)))
+        }
+        _ => false,
+    }
+}
+
+// Whether a filter that asks if `x` is above 1, and its copy, ask that.
+fn is_copied(alloc: Global) -> Result<bool, Fail> {
+    let filter = above_one(alloc, "x", NUMBER)?;
+    let copy = filter.try_clone(alloc)?;
+    Ok(asks_above_one(&filter, "x") && asks_above_one(&copy, "x"))
+}
+
+#[test]
+fn a_copy_of_a_comparison_is_the_comparison(rt: HostRuntime) -> Result<(), Fail> {
+    assert!(rt; is_copied(rt.alloc())?);
     Ok(())
 }
 

@@ -46,7 +46,7 @@ fn types_agree_but_for_their_nulls(rt: HostRuntime) -> Result<(), Fail> {
 }
 
 #[test]
-fn every_type_has_a_form_with_nulls(rt: HostRuntime) -> Result<(), Fail> {
+fn every_type_has_a_form_with_nulls_and_one_without(rt: HostRuntime) -> Result<(), Fail> {
     for (i, dtype) in types_with(Nullability::NonNullable)?.iter().enumerate() {
         let with_nulls = dtype.into_nullable();
         assert!(rt; !dtype.is_nullable(), "{i}");
@@ -55,6 +55,18 @@ fn every_type_has_a_form_with_nulls(rt: HostRuntime) -> Result<(), Fail> {
         assert!(rt;
             with_nulls.same_apart_from_nullability(dtype),
             "{i} is another type"
+        );
+        assert!(rt;
+            with_nulls.into_non_nullable() == *dtype,
+            "{i} without nulls"
+        );
+        assert!(rt;
+            with_nulls.nullability() == Nullability::Nullable,
+            "{i} nulls"
+        );
+        assert!(rt;
+            dtype.nullability() == Nullability::NonNullable,
+            "{i} no nulls"
         );
     }
     Ok(())

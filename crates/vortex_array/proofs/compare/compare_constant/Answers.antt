@@ -1,6 +1,7 @@
 use Rattle.std.proofs.Common.{◌∙◌, ◌≡◌, ap, None}
 use Rattle.std.specs.Prelude.{IsTrue, replicate}
 use Rattle.std.proofs.lemmas.Result.{IfOk-weaker}
+use Rattle.vortex_types.specs.Order.{compares}
 use Rattle.vortex_types.specs.Row.{fits_type}
 use Rattle.vortex_types.specs.declared.types.Nullability.TheVariants as nulls
 use Rattle.vortex_columns.specs.Truths.{truths}
@@ -17,5 +18,5 @@ returns-in-None c =
     (λ a e.
     e
     ∙ ap (λ m. truths nulls.Nullable (replicate m None)) c.len.ensures.count
-    ∙ constant-null c.args.operator (column_of c.args.left.now) k is fits c.requires.same_length)
+    ∙ constant-null (compares c.args.operator) (column_of c.args.left.now) k is fits c.requires.same_length)
     c.null_answers.ensures

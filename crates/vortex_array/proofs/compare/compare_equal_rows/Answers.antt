@@ -1,6 +1,7 @@
 use Rattle.std.proofs.Common.{◌∙◌, ◌≡◌, ap, None, Some}
 use Rattle.std.specs.Prelude.{IsTrue, replicate}
 use Rattle.std.proofs.lemmas.Result.{IfOk-weaker}
+use Rattle.vortex_types.specs.Order.{compares}
 use Rattle.vortex_types.specs.Row.{fits_type, nullability}
 use Rattle.vortex_types.specs.Seen.{value_seen}
 use Rattle.vortex_types.specs.declared.types.Nullability.{Nullability}
@@ -18,10 +19,10 @@ returns-in-Some c =
     IfOk-weaker c.equal_answers.result _ _
     (λ a e.
     e
-    ∙ ap (λ n. truths n (replicate c.len.result (Some c.compare_values-answer.result))) kinds
-    ∙ ap (λ m. truths kind (replicate m (Some c.compare_values-answer.result))) c.len.ensures.count
-    ∙ ap (λ b. truths kind (replicate k.len (Some b))) c.compare_values-answer.ensures
-    ∙ equal-some c.args.operator k c.args.dtype (value_seen c.in-Some.own) (value_seen c.args.value) is)
+    ∙ ap (λ n. truths n (replicate c.len.result (Some c.compares-answer.result))) kinds
+    ∙ ap (λ m. truths kind (replicate m (Some c.compares-answer.result))) c.len.ensures.count
+    ∙ ap (λ b. truths kind (replicate k.len (Some b))) c.compares-answer.ensures
+    ∙ equal-some (compares c.args.operator) k c.args.dtype (value_seen c.in-Some.own) (value_seen c.args.value) is)
     c.equal_answers.ensures
 
 pub returns-in-None : goal.returns-in-None
@@ -33,5 +34,5 @@ returns-in-None c =
     (λ a e.
     e
     ∙ ap (λ m. truths nulls.Nullable (replicate m None)) c.len-in-None.ensures.count
-    ∙ equal-null c.args.operator k c.args.dtype (value_seen c.args.value) is fits)
+    ∙ equal-null (compares c.args.operator) k c.args.dtype (value_seen c.args.value) is fits)
     c.null_answers.ensures

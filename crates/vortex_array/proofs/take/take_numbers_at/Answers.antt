@@ -1,6 +1,6 @@
 use Rattle.std.proofs.Common.{◌∙◌, ap, length}
 use Rattle.vortex_types.specs.Row.{Column}
-use Rattle.vortex_columns.specs.Selected.{taken}
+use Rattle.vortex_selections.specs.Selected.{taken}
 use Rattle.vortex_array.specs.ColumnOf.{column_of}
 use Rattle.vortex_array.proofs.TakenAt.{numbers-below, same-indices}
 use Rattle.vortex_array.proofs.take.take_numbers_at.Goals as goal

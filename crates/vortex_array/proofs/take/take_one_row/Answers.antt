@@ -1,7 +1,7 @@
 use Rattle.std.proofs.Common.{◌∙◌, ap, map}
 use Rattle.vortex_types.specs.Row.{Column}
-use Rattle.vortex_columns.specs.Selected.{taken}
-use Rattle.vortex_columns.specs.SelectedParts.{index_column}
+use Rattle.vortex_selections.specs.Selected.{taken}
+use Rattle.vortex_selections.specs.SelectedParts.{index_column}
 use Rattle.vortex_array.proofs.TakenAt.{one-taken-by}
 use Rattle.vortex_array.proofs.take.take_one_row.Goals as goal
 

@@ -1,9 +1,8 @@
-use Rattle.std.proofs.Common.{◌∙◌, ◌≡◌, ◌&&◌, ◌==◌, sym, ap, true, false, length, replicate}
+use Rattle.std.proofs.Common.{◌∙◌, ◌==◌, sym, ap, length}
 use Rattle.std.specs.Prelude.{IsTrue}
-use Rattle.std.specs.Simd.Lanes.{zip2}
 use Rattle.std.proofs.lemmas.Result.{IfOk-weaker}
 use Rattle.vortex_buffer.proofs.Unset.{and-all_left, and-none_left}
-use Rattle.vortex_columns.specs.Validities.{is_as_long, valid_bits}
+use Rattle.vortex_columns.specs.Validities.{valid_bits}
 use Rattle.vortex_columns.proofs.BothValid.{joined-long}
 use Rattle.vortex_columns.proofs.joined.within.Goals as goal
 

@@ -1,4 +1,4 @@
-use Rattle.std.proofs.Common.{◌∙◌, ◌≡◌, ◌==◌, sym, ap, length, refl}
+use Rattle.std.proofs.Common.{◌∙◌, ◌≡◌, sym, ap, length, refl}
 use Rattle.std.specs.Prelude.{IsTrue}
 use Rattle.vortex_columns.specs.Truths.{BothValid}
 use Rattle.vortex_columns.specs.Known.{known}

@@ -1,4 +1,4 @@
-use Rattle.std.proofs.Common.{refl, arith, ◌∙◌}
+use Rattle.std.proofs.Common.{refl, arith}
 use Rattle.std.proofs.lemmas.Bool.{ltb-true, lt-ltb}
 use Rattle.vortex_extremes.proofs.EqualRows.{equal-sorted, equal-strict, strict-short}
 use Rattle.vortex_extremes.proofs.constant.equal_rows_are.Goals as goal

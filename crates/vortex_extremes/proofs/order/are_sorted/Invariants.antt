@@ -1,4 +1,4 @@
-use Rattle.std.proofs.Common.{ℕ, ◌≡◌, ◌<◌, ◌+◌, get_or, None}
+use Rattle.std.proofs.Common.{ℕ, ◌<◌, ◌+◌, get_or, None}
 use Rattle.std.specs.Prelude.{IsTrue}
 use Rattle.vortex_extremes.specs.InOrder.{at_most}
 use Rattle.vortex_extremes.proofs.order.are_sorted.Given as goal

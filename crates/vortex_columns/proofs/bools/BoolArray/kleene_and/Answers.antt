@@ -1,12 +1,9 @@
 use Rattle.std.proofs.Common.{◌∙◌, ◌≡◌, ◌&&◌, sym, ap, length, map, not, List, Bool}
-use Rattle.std.specs.Prelude.{IsTrue}
 use Rattle.std.specs.Simd.Lanes.{zip2}
 use Rattle.std.proofs.lemmas.List.{length-map}
 use Rattle.std.proofs.lemmas.Simd.{length-zip2}
 use Rattle.vortex_columns.specs.Known.{KnownWhere}
 use Rattle.vortex_columns.specs.Parts.{BoolParts}
-use Rattle.vortex_columns.specs.Validities.{is_as_long}
-use Rattle.vortex_columns.specs.declared.validity.Validity.{Validity}
 use Rattle.vortex_columns.proofs.TruthColumns.{and-made, same-bits}
 use Rattle.vortex_columns.proofs.bools.BoolArray.kleene_and.Goals as goal
 

@@ -1,4 +1,4 @@
-use Rattle.std.proofs.Common.{◌∙◌, ◌≡◌, sym, ap, length, false}
+use Rattle.std.proofs.Common.{◌∙◌, sym, ap, length}
 use Rattle.vortex_types.specs.Row.{is_nullable}
 use Rattle.std.proofs.lemmas.Bool.Decides.{Decides-eqb}
 use Rattle.vortex_columns.proofs.PresentRows.{all-present}

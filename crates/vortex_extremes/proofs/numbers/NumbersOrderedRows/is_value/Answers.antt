@@ -1,5 +1,5 @@
 use Rattle.std.proofs.Common.{◌∙◌, ◌<◌, sym, map, length, arith}
-use Rattle.std.specs.Prelude.{IsTrue}
+use Rattle.std.specs.Prelude.{IsTrue, pos}
 use Rattle.std.proofs.lemmas.List.{length-map}
 use Rattle.vortex_types.specs.declared.scalar.Value.TheVariants as values
 use Rattle.vortex_columns.specs.Validities.{is_as_long}
@@ -13,4 +13,4 @@ returns g c =
     let xs = map g.T.NativeValue.number s.items.now in
     let long : IsTrue (is_as_long s.validity.now (length xs)) = rw (length-map s.items.now g.T.NativeValue.number) s.long in
     let inside : c.args.i < length xs = omega (arith, c.requires, length-rows-map (λ n. values.Int n) s.validity.now xs long) in
-    c.is_valid.ensures ∙ sym (some-at s.validity.now xs c.args.i long inside)
+    c.is_valid.ensures ∙ sym (some-at (λ n. values.Int n) s.validity.now xs c.args.i (pos 0) long inside)

@@ -1,0 +1,34 @@
+//! Patterns over many texts, under a C name, so that `bench/patterns` can time them beside stock Rust.
+#![tactic(auto)]
+
+use vortex_predicates::text_matches;
+
+// Whether the text between two places matches. It does not where they are no places between characters.
+#[inline(always)]
+fn matches_between(texts: &str, start: usize, end: usize, pattern: &str) -> bool {
+    match texts.get(start..end) {
+        Some(text) => text_matches(text, pattern),
+        None => false,
+    }
+}
+
+// How many of the texts match. One ends where the next begins.
+fn count_matches(texts: &str, ends: &[usize], pattern: &str) -> usize {
+    let mut count = 0usize;
+    let mut start = 0;
+    for end in ends {
+        let matched = matches_between(texts, start, *end, pattern);
+        count = count.saturating_add(matched as usize);
+        start = *end;
+    }
+    count
+}
+
+/// How many of the texts match the pattern. The texts stand one after another in the bytes.
+#[unsafe(no_mangle)]
+pub extern "C" fn bench_patterns(bytes: &[u8], ends: &[usize], pattern: &[u8]) -> usize {
+    match (std::str::from_utf8(bytes), std::str::from_utf8(pattern)) {
+        (Ok(texts), Ok(pattern)) => count_matches(texts, ends, pattern),
+        _ => 0,
+    }
+}

@@ -1,0 +1,4 @@
+pub mod SelectedRows
+pub mod TakenRows
+pub mod TextRows
+pub mod EqualRows

@@ -2,9 +2,13 @@
 //
 // A call of the library builds its columns and then calls so many times, so what one call takes is what further ones add:
 // the least time with more calls, less the least time with one. The stock side's columns stand ready.
+mod clock;
 mod memory;
+mod stock;
 
+use clock::now;
 use std::hint::black_box;
+use stock::{count, kept_values};
 
 // How many rows there are, and how many of them are true; of other values, the first, the middle and the last row as one
 // number, where a null row counts as 0 and a text as its length.
@@ -27,29 +31,9 @@ extern "C" {
     fn bench_texts_like(bytes: *const u8, bytes_len: usize, ends: *const usize, len: usize, nulls: *const u64, nulls_len: usize, pattern: *const u8, pattern_len: usize, times: usize) -> Told;
 }
 
-// The processor time of this thread, in milliseconds: other work on the machine does not count in it, but for what it does
-// to the caches.
-fn now() -> f64 {
-    #[repr(C)]
-    struct Time {
-        seconds: i64,
-        nanoseconds: i64,
-    }
-    extern "C" {
-        fn clock_gettime(clock: i32, time: *mut Time) -> i32;
-    }
-    let mut time = Time { seconds: 0, nanoseconds: 0 };
-    unsafe { clock_gettime(3, &mut time) };
-    time.seconds as f64 * 1e3 + time.nanoseconds as f64 / 1e6
-}
-
 const ROWS: usize = 10_000_000;
 // How many calls are timed beyond the first.
 const MORE: usize = 6;
-
-fn count(words: &[u64]) -> usize {
-    words.iter().map(|word| word.count_ones() as usize).sum()
-}
 
 fn bit(words: &[u64], i: usize) -> bool {
     words[i / 64] >> (i % 64) & 1 == 1
@@ -107,20 +91,6 @@ fn told_items(items: &[u64], nulls: &[u64]) -> Told {
 #[inline(never)]
 fn both(left: &[u64], right: &[u64]) -> Vec<u64> {
     left.iter().zip(right).map(|(a, b)| a & b).collect()
-}
-
-// The kept values, from set bit to set bit.
-#[inline(never)]
-fn stock_filter(values: &[u64], mask: &[u64]) -> Vec<u64> {
-    let mut kept = Vec::with_capacity(count(mask));
-    for (k, word) in mask.iter().enumerate() {
-        let mut rest = *word;
-        while rest != 0 {
-            kept.push(values[64 * k + rest.trailing_zeros() as usize]);
-            rest &= rest - 1;
-        }
-    }
-    kept
 }
 
 // The kept bits of a validity.
@@ -274,15 +244,15 @@ fn numbers(random: &mut Random, runs: usize) {
     for percent in [1, 50, 99] {
         let mask = random.bits(percent);
         let ours = |times| unsafe { bench_column_filter(values.as_ptr(), ROWS, none.as_ptr(), 0, mask.as_ptr(), mask.len(), times) };
-        assert_eq!(ours(1), told_items(&stock_filter(&values, &mask), &none));
-        race(&format!("filter, {percent} % set"), runs, &ours, &|| black_box(stock_filter(black_box(&values), black_box(&mask))).len());
+        assert_eq!(ours(1), told_items(&kept_values(&values, &mask), &none));
+        race(&format!("filter, {percent} % set"), runs, &ours, &|| black_box(kept_values(black_box(&values), black_box(&mask))).len());
     }
     let mask = random.bits(50);
     let ours = |times| unsafe { bench_column_filter(values.as_ptr(), ROWS, present.as_ptr(), present.len(), mask.as_ptr(), mask.len(), times) };
-    assert_eq!(ours(1), told_items(&stock_filter(&values, &mask), &stock_filter_bits(&present, &mask)));
+    assert_eq!(ours(1), told_items(&kept_values(&values, &mask), &stock_filter_bits(&present, &mask)));
     race("filter, 50 % set, with nulls", runs, &ours, &|| {
         black_box(stock_filter_bits(black_box(&present), black_box(&mask)));
-        black_box(stock_filter(black_box(&values), black_box(&mask))).len()
+        black_box(kept_values(black_box(&values), black_box(&mask))).len()
     });
     let far: Vec<u64> = (0..ROWS).map(|_| random.next() % ROWS as u64).collect();
     let near: Vec<u64> = (0..ROWS as u64).map(|i| (i + random.next() % 100).min(ROWS as u64 - 1)).collect();

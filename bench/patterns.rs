@@ -2,8 +2,10 @@
 // `bench/patterns`.
 //
 // The library first tests once that all bytes are text. What that takes is timed by a call with no texts, and not counted.
+mod clock;
 mod memory;
 
+use clock::now;
 use std::hint::black_box;
 
 extern "C" {
@@ -12,22 +14,6 @@ extern "C" {
 
 const ROWS: usize = 10_000_000;
 const RUNS: usize = 9;
-
-// The processor time of this thread, in milliseconds: other work on the machine does not count in it, but for what it does
-// to the caches.
-fn now() -> f64 {
-    #[repr(C)]
-    struct Time {
-        seconds: i64,
-        nanoseconds: i64,
-    }
-    extern "C" {
-        fn clock_gettime(clock: i32, time: *mut Time) -> i32;
-    }
-    let mut time = Time { seconds: 0, nanoseconds: 0 };
-    unsafe { clock_gettime(3, &mut time) };
-    time.seconds as f64 * 1e3 + time.nanoseconds as f64 / 1e6
-}
 
 // Texts one after another, and where each ends.
 struct Texts {

@@ -1,8 +1,10 @@
 // Times the row operations of `vortex_rows` beside stock Rust loops of the same job. Built and run by `bench/rows`.
 mod memory;
+mod stock;
 
 use std::hint::black_box;
 use std::time::Instant;
+use stock::{count, kept_values};
 
 extern "C" {
     fn bench_filter(values: *const u64, len: usize, words: *const u64, words_len: usize, last: *mut u64) -> usize;
@@ -16,26 +18,10 @@ const RUNS: usize = 11;
 // A loop over the rows that asks each bit.
 #[inline(never)]
 fn stock_filter(values: &[u64], words: &[u64]) -> Vec<u64> {
-    let count = words.iter().map(|word| word.count_ones() as usize).sum();
-    let mut kept = Vec::with_capacity(count);
+    let mut kept = Vec::with_capacity(count(words));
     for (i, value) in values.iter().enumerate() {
         if words[i / 64] >> (i % 64) & 1 == 1 {
             kept.push(*value);
-        }
-    }
-    kept
-}
-
-// A loop over the set bits of each word.
-#[inline(never)]
-fn stock_filter_by_words(values: &[u64], words: &[u64]) -> Vec<u64> {
-    let count = words.iter().map(|word| word.count_ones() as usize).sum();
-    let mut kept = Vec::with_capacity(count);
-    for (k, word) in words.iter().enumerate() {
-        let mut rest = *word;
-        while rest != 0 {
-            kept.push(values[64 * k + rest.trailing_zeros() as usize]);
-            rest &= rest - 1;
         }
     }
     kept
@@ -93,11 +79,11 @@ fn main() {
         let expected = stock_filter(&values, &words);
         let given = unsafe { bench_filter(values.as_ptr(), ROWS, words.as_ptr(), words.len(), &mut last) };
         assert_eq!((given, Some(&last)), (expected.len(), expected.last()));
-        assert_eq!(expected, stock_filter_by_words(&values, &words));
+        assert_eq!(expected, kept_values(&values, &words));
         let times = least(&mut [
             &mut || unsafe { bench_filter(values.as_ptr(), ROWS, words.as_ptr(), words.len(), &mut last) },
             &mut || black_box(stock_filter(black_box(&values), black_box(&words))).len(),
-            &mut || black_box(stock_filter_by_words(black_box(&values), black_box(&words))).len(),
+            &mut || black_box(kept_values(black_box(&values), black_box(&words))).len(),
         ]);
         row(&format!("filter, {percent} % set"), times[0], &times[1..]);
     }

@@ -28,15 +28,15 @@ odd_false : (word : ℕ) → word % 2 ≡ 0 → eqb (word % 2) 1 ≡ false
 odd_false word e = rw e refl
 
 -- a word whose lowest bit is set keeps the first item
-kept_in-odd : {X : Type 0} (word : ℕ) (x : X) (xs : List X) → word % 2 ≡ 1 → kept_in word (x ∷ xs) ≡ x ∷ kept_in (word / 2) xs
+pub kept_in-odd : {X : Type 0} (word : ℕ) (x : X) (xs : List X) → word % 2 ≡ 1 → kept_in word (x ∷ xs) ≡ x ∷ kept_in (word / 2) xs
 kept_in-odd word x xs e = ap (λ b. cond b (x ∷ kept_in (word / 2) xs) (kept_in (word / 2) xs)) (odd_true word e)
 
 -- a word whose lowest bit is not set does not keep the first item
-kept_in-even : {X : Type 0} (word : ℕ) (x : X) (xs : List X) → word % 2 ≡ 0 → kept_in word (x ∷ xs) ≡ kept_in (word / 2) xs
+pub kept_in-even : {X : Type 0} (word : ℕ) (x : X) (xs : List X) → word % 2 ≡ 0 → kept_in word (x ∷ xs) ≡ kept_in (word / 2) xs
 kept_in-even word x xs e = ap (λ b. cond b (x ∷ kept_in (word / 2) xs) (kept_in (word / 2) xs)) (odd_false word e)
 
 -- one more power of two
-pow_more : (n : ℕ) → 2 ^ suc n ≡ 2 * 2 ^ n
+pub pow_more : (n : ℕ) → 2 ^ suc n ≡ 2 * 2 ^ n
 pow_more n = grind arith
 
 -- a word of so many set bits keeps so many items
@@ -88,6 +88,10 @@ kept_in-first (suc t) word (x ∷ xs) d here before within =
 pub set_bit_within : (word t n : ℕ) → bit_at word t ≡ 1 → word < 2 ^ n → t < n
 set_bit_within word t n here small =
     ⊎_elim (λ (inside : t < n). inside) (λ (past : n ≤ t). absurd (let none = bit_at_above word n t small past in omega (arith, here, none))) (cases_lt t n)
+
+-- a bit of a number that was shifted
+pub shifted_bit : (n shift i : ℕ) → bit_at (n / 2 ^ shift) i ≡ bit_at n (shift + i)
+shifted_bit n shift i = ap (λ m. m % 2) (shr-shr n shift i)
 
 -- the lowest set bit of a word of n bits
 pub record LowestBit (word t n : ℕ) : Type 0 where
@@ -161,12 +165,29 @@ word_below bits k n is =
     let reach : length (take 64 (drop (64 * k) bits)) ≡ n = omega (arith, length-take 64 (drop (64 * k) bits), length-drop (64 * k) bits, is) in
     rw reach at (mask_l-lt (take 64 (drop (64 * k) bits)))
 
+-- word k of a list of bits is below the power of two that the rest of the list reaches
+pub word_reach : (bits : List Bool) (k n word : ℕ) → word ≡ word_of bits k → length bits - 64 * k ≤ n → word < 2 ^ n
+word_reach bits k n word is reach =
+    let few : min 64 (length bits - 64 * k) ≤ n = omega arith in
+    rw is (lt_of_lt_of_le (word_below bits k (min 64 (length bits - 64 * k)) refl) (pow_mono few))
+
 -- what word k keeps of its group of items is what its bits keep
 pub kept_group : {X : Type 0} (bits : List Bool) (items : List X) (k : ℕ) → length bits ≡ length items → kept_in (word_of bits k) (take 64 (drop (64 * k) items)) ≡ kept_by (take 64 (drop (64 * k) bits)) (take 64 (drop (64 * k) items))
 unfolding word_of
 kept_group bits items k same =
     kept_in-mask (take 64 (drop (64 * k) bits)) (take 64 (drop (64 * k) items))
     (omega (arith, length-take 64 (drop (64 * k) bits), length-drop (64 * k) bits, length-take 64 (drop (64 * k) items), length-drop (64 * k) items, same))
+
+-- what a mask keeps of one more word of items
+pub kept_word_more : {X : Type 0} (set : List Bool) (items : List X) (k : ℕ) → length set ≡ length items → kept_by (take (64 * (k + 1)) set) (take (64 * (k + 1)) items) ≡ kept_by (take (64 * k) set) (take (64 * k) items) ++ kept_in (word_of set k) (take 64 (drop (64 * k) items))
+kept_word_more set items k same =
+    let next : 64 * (k + 1) ≡ 64 * k + 64 = omega arith in
+    let fronts : length (take (64 * k) set) ≡ length (take (64 * k) items) = omega (arith, length-take (64 * k) set, length-take (64 * k) items, same) in
+    ap (λ n. kept_by (take n set) (take n items)) next
+    ∙ ap (λ s. kept_by s (take (64 * k + 64) items)) (take-add (64 * k) 64 set)
+    ∙ ap (kept_by (take (64 * k) set ++ take 64 (drop (64 * k) set))) (take-add (64 * k) 64 items)
+    ∙ kept_by-append (take (64 * k) set) (take 64 (drop (64 * k) set)) (take (64 * k) items) (take 64 (drop (64 * k) items)) fronts
+    ∙ ap (λ ys. kept_by (take (64 * k) set) (take (64 * k) items) ++ ys) (sym (kept_group set items k same))
 
 -- a group is 64 items, or as many as there are
 group_is : {X : Type 0} (items : List X) (at start end : ℕ) → start ≡ at → end ≡ start + min (length items - start) 64 → slice_range items start end ≡ take 64 (drop at items)
@@ -175,18 +196,11 @@ group_is items at start end from to =
     ap (λ n. take n (drop start items)) long ∙ take_min 64 (drop start items) ∙ ap (λ n. take 64 (drop n items)) from
 
 -- one more group of items: what its word keeps comes behind what was kept before
-pub group_more : {X : Type 0} (bits : List Bool) (items : List X) (k start end next word : ℕ) (before now : List X) → length bits ≡ length items → start ≡ 64 * k → start ≤ length items → end ≡ start + min (length items - start) 64 → next ≡ 64 * k + 64 → word ≡ word_of bits k → before ≡ kept_by (take (64 * k) bits) (take (64 * k) items) → now ≡ before ++ kept_in word (slice_range items start end) → now ≡ kept_by (take next bits) (take next items)
+pub group_more : {X : Type 0} (bits : List Bool) (items : List X) (k start end next word : ℕ) (before now : List X) → length bits ≡ length items → start ≡ 64 * k → start ≤ length items → end ≡ start + min (length items - start) 64 → next ≡ 64 * (k + 1) → word ≡ word_of bits k → before ≡ kept_by (take (64 * k) bits) (take (64 * k) items) → now ≡ before ++ kept_in word (slice_range items start end) → now ≡ kept_by (take next bits) (take next items)
 group_more bits items k start end next word before now same from room to after is so_far more =
-    let part : slice_range items start end ≡ take 64 (drop (64 * k) items) =
-    group_is items (64 * k) start end from to
-    in
-    let fronts : length (take (64 * k) bits) ≡ length (take (64 * k) items) = omega (arith, length-take (64 * k) bits, length-take (64 * k) items, same) in
     more
     ∙ ap (λ ys. ys ++ kept_in word (slice_range items start end)) so_far
     ∙ ap (λ w. kept_by (take (64 * k) bits) (take (64 * k) items) ++ kept_in w (slice_range items start end)) is
-    ∙ ap (λ ys. kept_by (take (64 * k) bits) (take (64 * k) items) ++ kept_in (word_of bits k) ys) part
-    ∙ ap (λ ys. kept_by (take (64 * k) bits) (take (64 * k) items) ++ ys) (kept_group bits items k same)
-    ∙ sym (kept_by-append (take (64 * k) bits) (take 64 (drop (64 * k) bits)) (take (64 * k) items) (take 64 (drop (64 * k) items)) fronts)
-    ∙ ap (λ bs. kept_by bs (take (64 * k) items ++ take 64 (drop (64 * k) items))) (sym (take-add (64 * k) 64 bits))
-    ∙ ap (kept_by (take (64 * k + 64) bits)) (sym (take-add (64 * k) 64 items))
+    ∙ ap (λ ys. kept_by (take (64 * k) bits) (take (64 * k) items) ++ kept_in (word_of bits k) ys) (group_is items (64 * k) start end from to)
+    ∙ sym (kept_word_more bits items k same)
     ∙ ap (λ n. kept_by (take n bits) (take n items)) (sym after)

@@ -5,3 +5,5 @@ pub mod KeptWords
 pub mod Pieces
 pub mod FirstSet
 pub mod PackedBits
+pub mod SlicedBits
+pub mod KeptRuns

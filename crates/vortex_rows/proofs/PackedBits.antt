@@ -15,8 +15,8 @@ use Rattle.vortex_buffer.specs.Bits.{bits_of, word_of}
 use Rattle.vortex_buffer.proofs.Bits.{length-bits_of, get_or-bits_of}
 use Rattle.vortex_rows.specs.Kept.{kept_by, kept_in}
 use Rattle.vortex_rows.specs.Packs.{number_of, Packs, PacksMore, KeepsOfWord}
-use Rattle.vortex_rows.proofs.Kept.{kept_by-append, length-kept_by}
-use Rattle.vortex_rows.proofs.KeptWords.{kept_in-first, kept_in-none, LowestBit, shorter, take-add, word_below, kept_group}
+use Rattle.vortex_rows.proofs.Kept.{length-kept_by}
+use Rattle.vortex_rows.proofs.KeptWords.{kept_in-first, kept_in-none, kept_word_more, LowestBit, shorter, word_below}
 
 -- twice a product
 twice : (p m q : ℕ) → q ≡ 2 * p → q * m ≡ 2 * (p * m)
@@ -183,17 +183,6 @@ walk_next word set group rest at packed count t place bit w low there is read =
 -- one more bit stays below the next power of two
 pub bit_more : (packed count bit : ℕ) → packed < 2 ^ count → bit < 2 → packed + bit * 2 ^ count < 2 ^ (count + 1)
 bit_more packed count bit small few = let below = mul-add-lt bit (2 ^ count) packed 2 few small in rw (pow-add 2 count 1) (omega (arith, below))
-
--- what a mask keeps of one more word of bits
-pub kept_word_more : (set bits : List Bool) (k : ℕ) → length set ≡ length bits → kept_by (take (64 * (k + 1)) set) (take (64 * (k + 1)) bits) ≡ kept_by (take (64 * k) set) (take (64 * k) bits) ++ kept_in (word_of set k) (take 64 (drop (64 * k) bits))
-kept_word_more set bits k same =
-    let next : 64 * (k + 1) ≡ 64 * k + 64 = omega arith in
-    let fronts : length (take (64 * k) set) ≡ length (take (64 * k) bits) = omega (arith, length-take (64 * k) set, length-take (64 * k) bits, same) in
-    ap (λ n. kept_by (take n set) (take n bits)) next
-    ∙ ap (λ s. kept_by s (take (64 * k + 64) bits)) (take-add (64 * k) 64 set)
-    ∙ ap (kept_by (take (64 * k) set ++ take 64 (drop (64 * k) set))) (take-add (64 * k) 64 bits)
-    ∙ kept_by-append (take (64 * k) set) (take 64 (drop (64 * k) set)) (take (64 * k) bits) (take 64 (drop (64 * k) bits)) fronts
-    ∙ ap (λ bs. kept_by (take (64 * k) set) (take (64 * k) bits) ++ bs) (sym (kept_group set bits k same))
 
 -- word k of a list of bits spells its 64 bits from 64 * k on
 pub word_spells : (bits : List Bool) (k : ℕ) → word_of bits k ≡ mask_l (take 64 (drop (64 * k) bits))

@@ -1,6 +1,7 @@
-use Rattle.std.proofs.Common.{ℕ, zero, suc, ◌<◌, ◌≤◌, ◌≡◌, ◌+◌, ◌-◌, List, [], ◌∷◌, ◌++◌, length, get_or, take, drop, map, refl, sym, ap, ◌∙◌, arith, length-take, length-drop, Result, cond}
+use Rattle.std.proofs.Common.{ℕ, zero, suc, ◌<◌, ◌≤◌, ◌≡◌, ◌+◌, ◌-◌, List, [], ◌∷◌, ◌++◌, length, get_or, take, drop, map, refl, sym, ap, ◌∙◌, arith, length-append, length-take, length-drop, Result, cond}
 use Rattle.std.specs.Result.{is_ok, IsOk}
 use Rattle.std.specs.Prelude.{slice_range}
+use Rattle.std.proofs.lemmas.Simd.{map-map}
 use Rattle.std.proofs.lemmas.List.{drop_at, take_all, take-append-le, drop-append-le, drop-drop, drop-take, take-take}
 use Rattle.vortex_rows.specs.Pieces.{pieces, IsChain, start_at}
 
@@ -173,3 +174,60 @@ part_pieces bytes es i j from to order h is ends =
     ∙ pieces-moved bytes from to from (slice_range es i j) (omega arith) chain
     ∙ ap (λ n. pieces bytes n (slice_range es i j)) is
     ∙ sym (ap (take (j - i)) (drop-pieces bytes 0 es i) ∙ take-pieces bytes (start_at 0 es i) (drop i es) (j - i))
+
+-- each end of a part lies no further than where the part ends
+pub part_below : (es : List ℕ) (n i j to : ℕ) → i ≤ j → IsChain 0 es n → to ≡ start_at 0 es j → (k : ℕ) → k < length (slice_range es i j) → get_or (slice_range es i j) k 0 ≤ to
+part_below es n i j to order h is k l = rw is (chain_bounds (start_at 0 es i) (slice_range es i j) (start_at 0 es j) k l (chain-slice 0 es n i j order h)).1
+
+-- more bytes at the end, and more pieces of which the first begins there
+pieces-append : (bytes v : List ℕ) (s : ℕ) (es fs : List ℕ) → IsChain s es (length bytes) → pieces (bytes ++ v) s (es ++ fs) ≡ pieces bytes s es ++ pieces (bytes ++ v) (length bytes) fs
+pieces-append bytes v s [] fs h = ap (λ n. pieces (bytes ++ v) n fs) h
+pieces-append bytes v s (e ∷ es) fs h =
+    ap (λ p. p ∷ pieces (bytes ++ v) e (es ++ fs)) (same_piece bytes v s e h.0 (chain_le e es (length bytes) h.1))
+    ∙ ap (λ ps. slice_range bytes s e ∷ ps) (pieces-append bytes v e es fs h.1)
+
+-- a chain behind a chain
+chain-append : (s : ℕ) (es : List ℕ) (n : ℕ) (fs : List ℕ) (m : ℕ) → IsChain s es n → IsChain n fs m → IsChain s (es ++ fs) m
+chain-append s [] n fs m h k = rw h k
+chain-append s (e ∷ es) n fs m h k = (h.0, chain-append e es n fs m h.1 k)
+
+-- the pieces of bytes that stand behind others
+pieces-behind : (bytes run : List ℕ) (s : ℕ) (es : List ℕ) → pieces (bytes ++ run) (length bytes + s) (map (λ e. length bytes + e) es) ≡ pieces run s es
+pieces-behind bytes run s [] = refl
+pieces-behind bytes run s (e ∷ es) =
+    let long : (length bytes + e) - (length bytes + s) ≡ e - s = omega arith in
+    let there : drop (length bytes + s) (bytes ++ run) ≡ drop s run = sym (drop-drop s (length bytes) (bytes ++ run)) ∙ ap (drop s) (drop_at bytes run (length bytes) refl) in
+    ap (λ p. p ∷ pieces (bytes ++ run) (length bytes + e) (map (λ e. length bytes + e) es)) (ap (λ n. take n (drop (length bytes + s) (bytes ++ run))) long ∙ ap (take (e - s)) there)
+    ∙ ap (λ ps. slice_range run s e ∷ ps) (pieces-behind bytes run e es)
+
+-- a chain moved on
+chain-behind : (n s : ℕ) (es : List ℕ) (m : ℕ) → IsChain s es m → IsChain (n + s) (map (λ e. n + e) es) (n + m)
+chain-behind n s [] m h = ap (λ k. n + k) h
+chain-behind n s (e ∷ es) m h = (omega (arith, h.0), chain-behind n e es m h.1)
+
+-- ends moved to the start of their run and on behind others are moved at once
+moved_on : (es : List ℕ) (from n : ℕ) → map (λ e. n + (e - from)) es ≡ map (λ e. n + e) (map (λ e. e - from) es)
+moved_on es from n = sym (map-map (λ e. n + e) (λ e. e - from) es)
+
+-- a part of other pieces put behind: its run of bytes behind the bytes, and its ends, moved on, behind the ends
+pub record PutBehind (bytes ends other others run part : List ℕ) (i j from n : ℕ) : Type 0 where
+  pub pieces_are : pieces (bytes ++ run) 0 (ends ++ map (λ e. n + (e - from)) part) ≡ pieces bytes 0 ends ++ slice_range (pieces other 0 others) i j
+  pub chain : IsChain 0 (ends ++ map (λ e. n + (e - from)) part) (length (bytes ++ run))
+
+pub put_behind : (bytes ends other others : List ℕ) (i j from to n : ℕ) → IsChain 0 ends (length bytes) → n ≡ length bytes → i ≤ j → IsChain 0 others (length other) → from ≡ start_at 0 others i → to ≡ start_at 0 others j → PutBehind bytes ends other others (slice_range other from to) (slice_range others i j) i j from n
+put_behind bytes ends other others i j from to n h is order g starts stops =
+    let run = slice_range other from to in
+    let part = map (λ e. e - from) (slice_range others i j) in
+    let none : length bytes + 0 ≡ length bytes = omega arith in
+    let moved : map (λ e. n + (e - from)) (slice_range others i j) ≡ map (λ e. length bytes + e) part = moved_on (slice_range others i j) from n ∙ ap (λ m. map (λ e. m + e) part) is in
+    let chain : IsChain (length bytes) (map (λ e. length bytes + e) part) (length bytes + length run) =
+    rw none at (chain-behind (length bytes) 0 part (length run) (part_chain other others i j from to order g starts stops))
+    in
+    record {
+      pieces_are =
+          ap (λ fs. pieces (bytes ++ run) 0 (ends ++ fs)) moved
+          ∙ pieces-append bytes run 0 ends (map (λ e. length bytes + e) part) h
+          ∙ ap (λ m. pieces bytes 0 ends ++ pieces (bytes ++ run) m (map (λ e. length bytes + e) part)) (sym none)
+          ∙ ap (λ ps. pieces bytes 0 ends ++ ps) (pieces-behind bytes run 0 part ∙ part_pieces other others i j from to order g starts stops);
+      chain = rw (moved, length-append bytes run) (chain-append 0 ends (length bytes) (map (λ e. length bytes + e) part) (length bytes + length run) h chain);
+    }

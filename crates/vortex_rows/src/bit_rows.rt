@@ -1,37 +1,13 @@
 // Parts of a list of bits, and the bits at places.
-ghost use Rattle.std.specs.Prelude.{◌≡◌, ◌<◌, ◌≤◌, true, false, cond, All, IfOk, length, map, slice_index_or, slice_range};
+ghost use Rattle.std.specs.Prelude.{◌≡◌, ◌<◌, ◌≤◌, true, false, cond, All, IfOk, drop, length, map, slice_index_or, slice_range, take};
+ghost use Rattle.std.specs.Simd.Lanes.{mask_l};
+ghost use Rattle.vortex_buffer.specs.Bits.{word_of};
 ghost use Rattle.vortex_rows.specs.Taken.{SetPlacesBelow, taken_or};
 
 use crate::places::Place;
 use std::alloc::Global;
-use vortex_buffer::{AllocError, BitBuffer};
+use vortex_buffer::{AllocError, BitBuffer, Buffer};
 use vortex_compute::{IndexedSource, collect_lane_bits};
-
-// A part of the bits of a buffer, as lanes.
-#[derive(Clone, Copy)]
-struct BitRange<'a> {
-    bits: &'a BitBuffer,
-    start: usize,
-    end: usize,
-    ghost order: { start ≤ end },
-    ghost within: { end ≤ length bits.now },
-}
-
-impl IndexedSource for BitRange<'_> {
-    type Item = bool;
-
-    ghost lanes = { λ s. slice_range s.bits.now s.start s.end };
-
-    #[inline(always)]
-    fn len(&self) -> usize {
-        self.end - self.start
-    }
-
-    #[inline(always)]
-    fn get(&self, i: usize) -> bool {
-        self.bits.value(self.start + i)
-    }
-}
 
 // The bits at places, as lanes.
 #[derive(Drop)]
@@ -104,8 +80,38 @@ pub fn slice_bits(
     requires within { end ≤ length bits.now }
     ensures ok { IfOk result (λ part. part ≡ slice_range bits.now start end) }
 {
-    let part = collect_lane_bits(alloc, &BitRange { bits, start, end }, |bit: bool| bit)?;
-    Ok(part)
+    let len = end - start;
+    let count = len.div_ceil(64);
+    let mut words = Vec::with_capacity(alloc, count)?;
+    for k in 0..count {
+        words.push(word_at(bits, start + 64 * k))?;
+    }
+    // The last word may reach past the end: the bits there are cleared.
+    Ok(BitBuffer::from_words(Buffer::from_vec(words), len))
+}
+
+// The 64 bits from a place on, as a word. Bits past the end are 0.
+#[inline(always)]
+fn word_at(bits: &BitBuffer, place: usize) -> u64
+    ensures { result ≡ mask_l (take 64 (drop place bits.now)) }
+{
+    let k = place / 64;
+    let low = word_or_unset(bits, k) as u128;
+    let high = word_or_unset(bits, k + 1) as u128;
+    let both = low + (high << 64);
+    ((both >> (place % 64)) % (1 << 64)) as u64
+}
+
+// Word `k`, or a word of no set bit past the end.
+#[inline(always)]
+fn word_or_unset(bits: &BitBuffer, k: usize) -> u64
+    ensures { result ≡ word_of bits.now k }
+{
+    if k < bits.len().div_ceil(64) {
+        bits.word(k)
+    } else {
+        0
+    }
 }
 
 /// The bits at the places, in the order of the places. A place may come again.

@@ -1,10 +1,11 @@
 // Lists of bytes, as texts and binary values are, one after another in one buffer.
-ghost use Rattle.std.specs.Prelude.{◌≡◌, ◌==◌, ◌<◌, ◌≤◌, ◌-◌, ◌++◌, ◌∷◌, [], All, EachIndex, List, ℕ, true, cond, length, map, IfOk, OnOk, OnErr, slice_index, slice_index_or, slice_range};
+ghost use Rattle.std.specs.Prelude.{◌≡◌, ◌==◌, ◌<◌, ◌≤◌, ◌+◌, ◌-◌, ◌^◌, ◌++◌, ◌∷◌, [], All, EachIndex, List, ℕ, true, cond, length, map, IfOk, OnOk, OnErr, slice_index, slice_index_or, slice_range, vec_capacity, vec_len};
 ghost use Rattle.vortex_buffer.specs.Mask.{mask_bits};
 ghost use Rattle.vortex_rows.specs.Kept.{kept_by};
 ghost use Rattle.vortex_rows.specs.Pieces.{pieces, IsChain, start_at};
 ghost use Rattle.vortex_rows.specs.Taken.{SetPlacesBelow, taken_or};
 
+use crate::kept_lists::filter_lists;
 use crate::places::Place;
 use std::alloc::Global;
 use std::marker::Model;
@@ -37,6 +38,16 @@ impl ByteLists {
             bytes: Vec::new(alloc),
             ends: Vec::new(alloc),
         }
+    }
+
+    // No list yet, and room for the ends of so many.
+    pub(crate) fn with_ends(alloc: Global, count: usize) -> Result<ByteLists, AllocError>
+        ensures { IfOk result (λ lists. lists ≡ []) }
+    {
+        Ok(ByteLists {
+            bytes: Vec::new(alloc),
+            ends: Vec::with_capacity(alloc, count)?,
+        })
     }
 
     /// How many lists of bytes there are.
@@ -73,6 +84,27 @@ impl ByteLists {
         Ok(())
     }
 
+    // Puts the lists of others from `start` up to `end` behind these, their bytes as one run. Where memory runs out, nothing
+    // has changed.
+    pub(crate) fn push_part(
+        &mut self,
+        lists: &ByteLists,
+        start: usize,
+        end: usize,
+    ) -> Result<(), AllocError>
+        requires order { start ≤ end }
+        requires within { end ≤ length lists.now }
+        ensures pushed { OnOk result (self.new ≡ self.old ++ slice_range lists.now start end) }
+        ensures kept { OnErr result (self.new ≡ self.old) }
+    {
+        let (from, to) = run_of(lists.bytes.len(), &lists.ends, start, end);
+        let before = self.bytes.len();
+        self.ends.reserve(end - start)?;
+        self.bytes.extend_from_slice(&lists.bytes[from..to])?;
+        push_moved(&mut self.ends, &lists.ends[start..end], from, before);
+        Ok(())
+    }
+
     /// The lists from `start` up to `end`, without it. Their bytes are copied as one run.
     pub fn slice(&self, alloc: Global, start: usize, end: usize) -> Result<ByteLists, AllocError>
         requires order { start ≤ end }
@@ -87,11 +119,11 @@ impl ByteLists {
         requires same_length { length (mask_bits mask.now) ≡ length self.now }
         ensures ok { IfOk result (λ kept. kept ≡ kept_by (mask_bits mask.now) self.now) }
     {
-        let mut kept = ByteLists::new(alloc);
-        for i in 0..self.len() {
-            push_if(&mut kept, self.get(i), mask.value(i))?;
+        match mask {
+            Mask::AllTrue(_) => self.try_clone(alloc),
+            Mask::AllFalse(_) => Ok(ByteLists::new(alloc)),
+            Mask::Values(bits) => filter_lists(alloc, self, bits),
         }
-        Ok(kept)
     }
 
     /// The lists at the places, in the order of the places. A place may come again.
@@ -144,16 +176,6 @@ fn list_or_empty<P: Place>(lists: &ByteLists, place: P, valid: bool) -> &[u8]
     if valid { lists.get(place.place()) } else { &[] }
 }
 
-// Puts a list of bytes behind the others where its bit is set.
-fn push_if(kept: &mut ByteLists, value: &[u8], set: bool) -> Result<(), AllocError>
-    ensures ok { OnOk result (kept.new ≡ kept.old ++ cond set (value.now ∷ []) []) }
-{
-    if set {
-        kept.push(value)?;
-    }
-    Ok(())
-}
-
 // The pieces from `start` up to `end`, with one run of bytes copied.
 fn part_of(
     alloc: Global,
@@ -199,6 +221,19 @@ fn moved(alloc: Global, ends: &[usize], from: usize) -> Result<Vec<usize>, Alloc
         moved.push(*end - from)?;
     }
     Ok(moved)
+}
+
+// Puts the ends of a part behind the others, moved from where the part began to where it begins now.
+#[inline(always)]
+fn push_moved(ends: &mut Vec<usize>, part: &[usize], from: usize, to: usize)
+    requires room { vec_len ends.old + length part.now ≤ vec_capacity ends.old }
+    requires above { EachIndex part.now (λ k. from ≤ slice_index part.now k) }
+    requires fits { EachIndex part.now (λ k. to + (slice_index part.now k - from) < 2 ^ 64) }
+    ensures { ends.new.items ≡ ends.old.items ++ map (λ end. to + (end - from)) part.now }
+{
+    for end in part {
+        let _ = ends.push(to + (*end - from));
+    }
 }
 
 // Piece i of the bytes.

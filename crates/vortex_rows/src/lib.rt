@@ -10,6 +10,7 @@ mod byte_lists;
 mod items;
 mod kept_bits;
 mod kept_items;
+mod kept_lists;
 mod places;
 mod set_bits;
 

@@ -76,6 +76,31 @@ fn kept_one_by_one(alloc: Global, values: &[u64], mask: &Mask) -> Result<Vec<u64
     Ok(kept)
 }
 
+// So many lists of none to three bytes.
+fn short_lists(alloc: Global, len: usize) -> Result<ByteLists, AllocError> {
+    let mut lists = ByteLists::new(alloc);
+    for i in 0..len {
+        let bytes = [(i % 251) as u8; 3];
+        lists.push(&bytes[..i % 4])?;
+    }
+    Ok(lists)
+}
+
+// The lists whose bit is set, found by asking each bit.
+fn kept_lists_one_by_one(
+    alloc: Global,
+    lists: &ByteLists,
+    mask: &Mask,
+) -> Result<ByteLists, AllocError> {
+    let mut kept = ByteLists::new(alloc);
+    for i in 0..lists.len().min(mask.len()) {
+        if mask.value(i) {
+            kept.push(lists.get(i))?;
+        }
+    }
+    Ok(kept)
+}
+
 // The bits whose bit is set, found by asking each bit.
 fn kept_bits_one_by_one(
     alloc: Global,
@@ -109,6 +134,28 @@ fn keeps_bits(alloc: Global, bits: &BitBuffer, mask: &Mask) -> Result<bool, Allo
     Ok(bits_are(&given, &expected))
 }
 
+// Whether two values have the same lists.
+fn lists_are(lists: &ByteLists, expected: &ByteLists) -> bool {
+    if lists.len() != expected.len() {
+        return false;
+    }
+    for i in 0..expected.len() {
+        if lists.get(i) != expected.get(i) {
+            return false;
+        }
+    }
+    true
+}
+
+fn keeps_lists_of(alloc: Global, lists: &ByteLists, mask: &Mask) -> Result<bool, AllocError> {
+    if lists.len() != mask.len() {
+        return Ok(false);
+    }
+    let given = lists.filter(alloc, mask)?;
+    let expected = kept_lists_one_by_one(alloc, lists, mask)?;
+    Ok(lists_are(&given, &expected))
+}
+
 fn keeps(alloc: Global, pattern: &[u64; 4], len: usize) -> Result<bool, AllocError> {
     if len > 256 {
         return Ok(false);
@@ -116,7 +163,8 @@ fn keeps(alloc: Global, pattern: &[u64; 4], len: usize) -> Result<bool, AllocErr
     let mask = Mask::from_buffer(bits_of(alloc, pattern, len)?);
     let values = keeps_values(alloc, &numbers(alloc, len)?, &mask)?;
     let bits = keeps_bits(alloc, &bits_of(alloc, &PATTERNS[3], len)?, &mask)?;
-    Ok(values && bits)
+    let lists = keeps_lists_of(alloc, &short_lists(alloc, len)?, &mask)?;
+    Ok(values && bits && lists)
 }
 
 #[test]
@@ -169,6 +217,39 @@ fn a_slice_is_the_rows_between_two_places(rt: HostRuntime) -> Result<(), Fail> {
                 "bits {start} to {end}"
             );
         }
+    }
+    Ok(())
+}
+
+// Starts and ends about the ends of words, within 256 bits.
+const PARTS: [(usize, usize); 14] = [
+    (0, 0),
+    (0, 64),
+    (0, 65),
+    (1, 64),
+    (1, 65),
+    (1, 66),
+    (63, 64),
+    (63, 128),
+    (64, 128),
+    (64, 129),
+    (65, 193),
+    (127, 256),
+    (191, 256),
+    (256, 256),
+];
+
+#[test]
+fn a_slice_of_bits_begins_and_ends_anywhere_in_a_word(rt: HostRuntime) -> Result<(), Fail> {
+    for (start, end) in PARTS {
+        assert!(rt;
+            slices_bits(rt.alloc(), 256, start, end)?,
+            "bits {start} to {end} of 256"
+        );
+        assert!(rt;
+            slices_bits(rt.alloc(), end, start, end)?,
+            "the last bits from {start} to {end}"
+        );
     }
     Ok(())
 }
@@ -321,6 +402,16 @@ fn takes_lists_or(alloc: Global, places: &[u32; 3], word: u64) -> Result<Vec<u8>
         return Ok(Vec::new(alloc));
     }
     joined(alloc, &lists.take_or(alloc, places.as_slice(), &valid)?)
+}
+
+#[test]
+fn a_mask_of_one_kind_keeps_all_lists_or_none(rt: HostRuntime) -> Result<(), Fail> {
+    for len in LENGTHS {
+        let lists = short_lists(rt.alloc(), len)?;
+        assert!(rt; keeps_lists_of(rt.alloc(), &lists, &Mask::new_true(len))?);
+        assert!(rt; keeps_lists_of(rt.alloc(), &lists, &Mask::new_false(len))?);
+    }
+    Ok(())
 }
 
 #[test]

@@ -16,4 +16,4 @@ pub loop-k-preserved : goal.loop-k-preserved
 loop-k-preserved g c =
     let items = c.args.items.now in
     let start = 64 * c.loop-k.k in
-    group_more c.args.bits.now items c.loop-k.k start (start + c.min.result) (64 * (c.loop-k.k + 1)) c.word.result c.loop-k.kept.items c.push_group.new.kept.items c.requires.same_length refl (omega arith) (ap (λ n. start + n) c.min.ensures) (omega arith) c.word.ensures c.loop-k.invariant c.in_ok-push_group.ensures.ok
+    group_more c.args.bits.now items c.loop-k.k start (start + c.min.result) (64 * (c.loop-k.k + 1)) c.word.result c.loop-k.kept.items c.push_group.new.kept.items c.requires.same_length refl (omega arith) (ap (λ n. start + n) c.min.ensures) refl c.word.ensures c.loop-k.invariant c.in_ok-push_group.ensures.ok

@@ -1,4 +1,4 @@
-use Rattle.std.proofs.Common.{◌∙◌, ◌<◌, ◌+◌, ◌*◌, refl, arith}
+use Rattle.std.proofs.Common.{◌+◌, ◌*◌, refl, arith}
 use Rattle.std.specs.Int.{trailing_zeros, w64}
 use Rattle.vortex_buffer.proofs.Bits.{div_ceil-64}
 use Rattle.vortex_rows.proofs.FirstSet.{first_is_set, no_word, none_before, set_within}

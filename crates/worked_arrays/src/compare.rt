@@ -1,8 +1,10 @@
 // Columns compared with columns and with constants.
-use crate::samples::{Nulls, equal_rows, numbers, shown_truths, three_null_one, validity};
+use crate::samples::{equal_rows, numbers, shown_truths, three_null_one};
 use std::alloc::{AllocError, Global};
 use std::test::Fail;
-use vortex_array::{Array, BetweenOptions, CompareOperator, PrimitiveBuffer, StrictComparison};
+use vortex_array::{
+    Array, BetweenOptions, CompareOperator, PrimitiveBuffer, StrictComparison, Validity,
+};
 use vortex_buffer::Buffer;
 
 // One column compared with another, as text.
@@ -44,12 +46,16 @@ fn compared_turned(
     answers_of(alloc, &number, &rows, operator)
 }
 
+// The rows 3, 2 and 1 of the type `i32`.
+fn three_two_one(alloc: Global) -> Result<Array, AllocError> {
+    let values = Buffer::from_slice(alloc, &[3i32, 2, 1])?;
+    numbers(PrimitiveBuffer::I32(values), Validity::NonNullable)
+}
+
 // The rows 3, null and 1 compared with the rows 3, 2 and 1, as text.
 fn compared_by_rows(alloc: Global, operator: CompareOperator) -> Result<String, AllocError> {
     let rows = three_null_one(alloc)?;
-    let values = Buffer::from_slice(alloc, &[3i32, 2, 1])?;
-    let validity = validity(alloc, Nulls::NotInType, 3)?;
-    let others = numbers(PrimitiveBuffer::I32(values), validity)?;
+    let others = three_two_one(alloc)?;
     answers_of(alloc, &rows, &others, operator)
 }
 
@@ -130,20 +136,30 @@ fn between_of(
     shown_truths(alloc, &answers)
 }
 
+// Three rows bounded by a column and by 3, as text.
+fn bounded_by(
+    alloc: Global,
+    rows: &Array,
+    lower: &Array,
+    options: &BetweenOptions,
+) -> Result<String, AllocError> {
+    let upper = equal_rows(Some(3), 3)?;
+    between_of(alloc, rows, lower, &upper, options)
+}
+
 // The rows 3, null and 1 bounded by 1 and 3, as text.
 fn bounded(
     alloc: Global,
     lower_strict: StrictComparison,
     upper_strict: StrictComparison,
 ) -> Result<String, AllocError> {
-    let rows = three_null_one(alloc)?;
-    let lower = equal_rows(Some(1), 3)?;
-    let upper = equal_rows(Some(3), 3)?;
     let options = BetweenOptions {
         lower_strict,
         upper_strict,
     };
-    between_of(alloc, &rows, &lower, &upper, &options)
+    let rows = three_null_one(alloc)?;
+    let lower = equal_rows(Some(1), 3)?;
+    bounded_by(alloc, &rows, &lower, &options)
 }
 
 #[test]

@@ -2,12 +2,20 @@
 #![tactic(auto)]
 
 #[cfg(test)]
+mod casting;
+#[cfg(test)]
 mod compare;
+#[cfg(test)]
+mod fill;
+#[cfg(test)]
+mod like;
 #[cfg(test)]
 mod ordering;
 #[cfg(test)]
 mod samples;
 #[cfg(test)]
 mod scalars;
+#[cfg(test)]
+mod selecting;
 #[cfg(test)]
 mod taking;

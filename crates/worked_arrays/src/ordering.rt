@@ -1,8 +1,10 @@
-// Whether rows are equal or in order.
-use crate::samples::{Nulls, equal_rows, numbers, three_null_one, validity};
+// The least and the greatest value, and whether rows are equal or in order.
+use crate::samples::{
+    Nulls, equal_rows, numbers, push_scalar, shown_scalar, three_null_one, validity,
+};
 use std::alloc::{AllocError, Global};
 use std::test::Fail;
-use vortex_array::{Array, PrimitiveBuffer};
+use vortex_array::{Array, MinMax, PrimitiveBuffer};
 use vortex_buffer::Buffer;
 
 // Columns by name: rows of `i32?`, null where the name says so.
@@ -24,6 +26,41 @@ fn full(alloc: Global, items: &[i32]) -> Result<Array, AllocError> {
     let values = Buffer::from_slice(alloc, items)?;
     let validity = validity(alloc, Nulls::InNoRow, items.len())?;
     numbers(PrimitiveBuffer::I32(values), validity)
+}
+
+// The least and the greatest value as text.
+fn ends(alloc: Global, found: Option<&MinMax>) -> Result<String, AllocError> {
+    match found {
+        Some(found) => {
+            let mut text = shown_scalar(alloc, &found.min)?;
+            text.push_str(" to ")?;
+            push_scalar(&mut text, alloc, &found.max)?;
+            Ok(text)
+        }
+        None => "none".to_string(alloc),
+    }
+}
+
+// The least and the greatest value of named rows.
+fn min_max_of(alloc: Global, name: &str) -> Result<String, AllocError> {
+    let array = rows(alloc, name)?;
+    let found = array.min_max(alloc)?;
+    ends(alloc, found.as_ref())
+}
+
+#[test]
+fn nulls_are_no_least_and_no_greatest_value(rt: HostRuntime) -> Result<(), Fail> {
+    let alloc = rt.alloc();
+    for (name, want) in [
+        ("3 null 1", "i32 1 to i32 3"),
+        ("1 3 2", "i32 1 to i32 3"),
+        ("7 7", "i32 7 to i32 7"),
+        ("null null", "none"),
+        ("", "none"),
+    ] {
+        assert_eq!(rt; min_max_of(alloc, name)?.as_str(), want, "{name}");
+    }
+    Ok(())
 }
 
 // What holds of the rows.

@@ -312,7 +312,12 @@ pub(crate) fn shown(alloc: Global, array: &Array) -> Result<String, AllocError> 
     Ok(text)
 }
 
-fn push_scalar(text: &mut String, alloc: Global, scalar: &Scalar) -> Result<(), AllocError> {
+/// Adds the type and the value of a scalar to a text, as `i32 3`.
+pub(crate) fn push_scalar(
+    text: &mut String,
+    alloc: Global,
+    scalar: &Scalar,
+) -> Result<(), AllocError> {
     text.push_str(type_name(scalar.dtype()))?;
     if scalar.dtype().is_nullable() {
         text.push('?')?;

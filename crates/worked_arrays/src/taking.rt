@@ -1,7 +1,7 @@
 // Rows at indices, and which columns are indices.
 use crate::samples::{
-    KINDS, Kind, NULLS, Nulls, are_rows, is_present, kind_name, nulls_name, numbers, sample,
-    validity,
+    KINDS, Kind, NULLS, Nulls, are_rows, is_present, kind_name, nulls_name, numbers, sample, shown,
+    three_null_one, validity,
 };
 use std::alloc::{AllocError, Global};
 use std::test::Fail;
@@ -78,6 +78,30 @@ fn is_taken(
     )
 }
 
+// Indices of a width and form.
+fn indices_of(
+    alloc: Global,
+    width: PType,
+    nulls: Nulls,
+    places: &[Option<usize>],
+) -> Result<Array, AllocError> {
+    let validity = validity(alloc, nulls, places.len())?;
+    let values = index_buffer(alloc, width, places)?;
+    numbers(values, validity)
+}
+
+// Whether the rows at indices of a width and form are the rows at their places.
+fn are_taken(
+    alloc: Global,
+    whole: &Array,
+    width: PType,
+    nulls: Nulls,
+    places: &[Option<usize>],
+) -> Result<bool, AllocError> {
+    let indices = indices_of(alloc, width, nulls, places)?;
+    is_taken(alloc, whole, &indices, places)
+}
+
 // Whether indices of a width and form take the rows of eight rows of a kind and form.
 fn sample_is_taken(
     alloc: Global,
@@ -86,11 +110,9 @@ fn sample_is_taken(
     width: PType,
     index_nulls: Nulls,
 ) -> Result<bool, AllocError> {
-    let whole = sample(alloc, kind, nulls, 8)?;
     let places = some_places(alloc, index_nulls)?;
-    let values = index_buffer(alloc, width, places.as_slice())?;
-    let indices = numbers(values, validity(alloc, index_nulls, places.len())?)?;
-    is_taken(alloc, &whole, &indices, places.as_slice())
+    let whole = sample(alloc, kind, nulls, 8)?;
+    are_taken(alloc, &whole, width, index_nulls, places.as_slice())
 }
 
 // Whether indices of each width and form take the rows of eight rows of a kind and form.
@@ -123,6 +145,95 @@ fn equal_indices(width: PType, place: Option<i128>, len: usize) -> Result<Array,
         Ok(scalar) => Ok(Array::Constant(ConstantArray::new(scalar, len))),
         Err(_) => Err(AllocError),
     }
+}
+
+// Whether two equal indices take a row of eight rows of a kind and form twice, or two nulls.
+fn twice_is_taken(
+    alloc: Global,
+    kind: Kind,
+    nulls: Nulls,
+    place: Option<i128>,
+    places: &[Option<usize>],
+) -> Result<bool, AllocError> {
+    let whole = sample(alloc, kind, nulls, 8)?;
+    let indices = equal_indices(PType::U32, place, 2)?;
+    is_taken(alloc, &whole, &indices, places)
+}
+
+// Whether the last row and null are taken twice of eight rows of a kind and form.
+fn last_and_null_are_taken(alloc: Global, kind: Kind, nulls: Nulls) -> Result<bool, AllocError> {
+    Ok(
+        twice_is_taken(alloc, kind, nulls, Some(7), &[Some(7), Some(7)])?
+            && twice_is_taken(alloc, kind, nulls, None, &[None, None])?,
+    )
+}
+
+#[test]
+fn equal_indices_take_a_row_of_each_kind_again(rt: HostRuntime) -> Result<(), Fail> {
+    for kind in KINDS {
+        for nulls in NULLS {
+            let is_right = last_and_null_are_taken(rt.alloc(), kind, nulls)?;
+            assert!(rt; is_right, "{}, {}", kind_name(kind), nulls_name(nulls));
+        }
+    }
+    Ok(())
+}
+
+// The rows of 3, null and 1 at indices, or why there are none.
+fn taken(alloc: Global, indices: &Array) -> Result<String, AllocError> {
+    let whole = three_null_one(alloc)?;
+    if !indices.names_rows(whole.len()) {
+        return "no indices".to_string(alloc);
+    }
+    let part = whole.take(alloc, indices)?;
+    shown(alloc, &part)
+}
+
+// The rows of 3, null and 1 at numbers of a width.
+fn taken_at(alloc: Global, width: PType, places: &[Option<usize>]) -> Result<String, AllocError> {
+    let indices = indices_of(alloc, width, Nulls::InSomeRows, places)?;
+    taken(alloc, &indices)
+}
+
+#[test]
+fn rows_of_three_null_one_at_indices(rt: HostRuntime) -> Result<(), Fail> {
+    let alloc = rt.alloc();
+    let byte = PType::U8;
+    assert_eq!(rt;
+        taken_at(alloc, byte, &[Some(2), None])?.as_str(),
+        "i32? 1 null"
+    );
+    assert_eq!(rt;
+        taken_at(alloc, byte, &[Some(1), None])?.as_str(),
+        "i32? null null"
+    );
+    assert_eq!(rt; taken_at(alloc, byte, &[])?.as_str(), "i32?");
+    assert_eq!(rt; taken_at(alloc, byte, &[Some(3)])?.as_str(), "no indices");
+    assert_eq!(rt;
+        taken_at(alloc, PType::I8, &[Some(2)])?.as_str(),
+        "no indices"
+    );
+    Ok(())
+}
+
+// The rows of 3, null and 1 at so many equal indices.
+fn taken_at_equal(alloc: Global, place: Option<i128>, len: usize) -> Result<String, AllocError> {
+    let indices = equal_indices(PType::U16, place, len)?;
+    taken(alloc, &indices)
+}
+
+#[test]
+fn rows_of_three_null_one_at_equal_indices(rt: HostRuntime) -> Result<(), Fail> {
+    let alloc = rt.alloc();
+    assert_eq!(rt; taken_at_equal(alloc, Some(2), 3)?.as_str(), "i32? 1 1 1");
+    assert_eq!(rt;
+        taken_at_equal(alloc, Some(1), 2)?.as_str(),
+        "i32? null null"
+    );
+    assert_eq!(rt; taken_at_equal(alloc, None, 2)?.as_str(), "i32? null null");
+    assert_eq!(rt; taken_at_equal(alloc, Some(3), 1)?.as_str(), "no indices");
+    assert_eq!(rt; taken_at_equal(alloc, Some(3), 0)?.as_str(), "i32?");
+    Ok(())
 }
 
 // Whether so many rows of a kind are indices of 10 rows.

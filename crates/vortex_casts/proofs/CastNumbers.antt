@@ -1,14 +1,12 @@
 -- Casts of columns of whole numbers.
-use Rattle.std.proofs.Common.{ℕ, ◌<◌, ◌≤◌, ◌≡◌, Bool, true, false, cond, List, length, get_or, map, refl, sym, ap, ◌∙◌, arith, Option, Some, None, nat_lt}
+use Rattle.std.proofs.Common.{ℕ, ◌<◌, ◌≡◌, Bool, true, false, cond, List, length, get_or, map, refl, sym, ap, ◌∙◌, arith, Option, Some, None, nat_lt}
 use Rattle.std.specs.Prelude.{ℤ, pos, IsTrue, MatchOption}
-use Rattle.std.proofs.lemmas.Bool.{false≢true, true≢false, ltb-true, ltb-false}
+use Rattle.std.proofs.lemmas.Bool.{false≢true, ltb-true, ltb-false}
 use Rattle.vortex_types.specs.Row.{Column, in_width, is_nullable}
 use Rattle.vortex_types.specs.declared.types.PType.{PType}
-use Rattle.vortex_types.specs.declared.types.DType.{DType}
 use Rattle.vortex_types.specs.declared.types.DType.TheVariants.{Primitive}
 use Rattle.vortex_types.specs.declared.types.Nullability.{Nullability}
 use Rattle.vortex_types.specs.declared.types.Nullability.TheVariants as nulls
-use Rattle.vortex_types.specs.declared.scalar.Value.{Value}
 use Rattle.vortex_types.specs.declared.scalar.Value.TheVariants as value
 use Rattle.vortex_columns.specs.Validities.{rows_under, is_as_long, nullability_of, valid_at}
 use Rattle.vortex_columns.specs.declared.validity.Validity.{Validity}

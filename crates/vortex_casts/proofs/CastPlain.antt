@@ -1,5 +1,5 @@
 -- Casts of columns to a type that differs by its nulls alone.
-use Rattle.std.proofs.Common.{ℕ, ◌<◌, ◌≡◌, Bool, true, false, List, length, get_or, map, refl, sym, ap, ◌∙◌, arith, Option, Some, None}
+use Rattle.std.proofs.Common.{ℕ, ◌≡◌, true, false, List, length, get_or, map, refl, ap, ◌∙◌}
 use Rattle.std.specs.Prelude.{IsTrue}
 use Rattle.vortex_types.specs.Row.{Column, is_nullable, value_fits}
 use Rattle.vortex_types.specs.declared.types.DType.{DType}

@@ -1,14 +1,14 @@
 -- Rows of a column whose validity or numbers are written anew.
-use Rattle.std.proofs.Common.{ℕ, zero, suc, ◌<◌, ◌≡◌, ◌==◌, Bool, true, false, cond, List, [], ◌∷◌, length, get_or, map, refl, sym, ap, ◌∙◌, arith, Option, Some, None}
+use Rattle.std.proofs.Common.{ℕ, ◌<◌, ◌≡◌, Bool, true, false, cond, List, length, get_or, map, refl, sym, ap, ◌∙◌, arith, Some, None}
 use Rattle.std.specs.Prelude.{IsTrue, IsFalse, is_some}
-use Rattle.std.proofs.lemmas.Bool.{false≢true, true≢false, cases_Bool}
+use Rattle.std.proofs.lemmas.Bool.{false≢true}
 use Rattle.std.proofs.lemmas.List.{ext_get_or, get_or_default}
 use Rattle.vortex_types.specs.Row.{fits_type, is_nullable, value_fits}
 use Rattle.vortex_types.specs.declared.types.DType.{DType}
 use Rattle.vortex_types.specs.declared.types.Nullability.{Nullability}
 use Rattle.vortex_types.specs.declared.types.Nullability.TheVariants as nulls
 use Rattle.vortex_types.specs.declared.scalar.Value.{Value}
-use Rattle.vortex_columns.specs.Validities.{row_of, rows_under, is_as_long, valid_at, nullability_of, nullable_validity}
+use Rattle.vortex_columns.specs.Validities.{row_of, rows_under, is_as_long, valid_at, nullability_of}
 use Rattle.vortex_columns.specs.declared.validity.Validity.{Validity}
 use Rattle.vortex_columns.specs.declared.validity.Validity.TheVariants.{NonNullable, AllValid, AllInvalid, Bits}
 use Rattle.vortex_columns.proofs.RowLemmas.{length-rows-map, row-at}

@@ -1,6 +1,6 @@
 -- Casts of columns of texts and of bytes.
-use Rattle.std.proofs.Common.{ℕ, zero, suc, ◌<◌, ◌≡◌, ◌+◌, Bool, true, false, List, [], ◌∷◌, ◌++◌, length, get_or, take, map, refl, sym, ap, ◌∙◌, arith, Option, Some, None}
-use Rattle.std.specs.Prelude.{IsTrue, IsFalse, is_some, unwrap_or}
+use Rattle.std.proofs.Common.{ℕ, zero, suc, ◌<◌, ◌≡◌, ◌+◌, true, false, List, [], ◌∷◌, ◌++◌, length, get_or, take, map, refl, sym, ap, ◌∙◌, arith, Option, Some, None}
+use Rattle.std.specs.Prelude.{IsTrue, is_some, unwrap_or}
 use Rattle.std.proofs.lemmas.Bool.{false≢true, true≢false}
 use Rattle.std.proofs.lemmas.List.{get_or_default}
 use Rattle.vortex_types.specs.Row.{Column, fits_type, is_nullable, value_fits}
@@ -12,7 +12,7 @@ use Rattle.vortex_types.specs.declared.types.Nullability.TheVariants as nulls
 use Rattle.vortex_types.specs.declared.scalar.Value.{Value}
 use Rattle.vortex_types.specs.declared.scalar.Value.TheVariants as value
 use Rattle.vortex_columns.specs.ByteRows.{bytes_value, is_bytes_type, is_text_type}
-use Rattle.vortex_casts.specs.Casts.{AllFit, FirstUnfit, IsCast, StopsAt, can_cast, cast_column}
+use Rattle.vortex_casts.specs.Casts.{AllFit, IsCast, StopsAt, can_cast}
 use Rattle.vortex_casts.specs.Filled.{filled_row}
 use Rattle.vortex_casts.specs.Texts.{AllPresent, FirstNullRow, FitsBytes, bytes_of, is_text}
 

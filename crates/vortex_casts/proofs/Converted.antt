@@ -1,6 +1,6 @@
 -- Numbers that a kernel writes in another width.
-use Rattle.std.proofs.Common.{ℕ, zero, suc, inl, inr, ◌<◌, ◌≤◌, ◌≡◌, ◌+◌, ◌*◌, ◌/◌, Bool, true, false, ◌&&◌, List, [], ◌∷◌, length, get_or, map, take, refl, sym, ap, ◌∙◌, arith, Option, Some, None}
-use Rattle.std.specs.Prelude.{ℤ, pos, is_some, is_none, unwrap_or, replicate, min, count_by, not, ◌⊎◌}
+use Rattle.std.proofs.Common.{ℕ, zero, suc, inl, inr, ◌<◌, ◌≤◌, ◌≡◌, ◌+◌, Bool, true, false, ◌&&◌, List, [], ◌∷◌, length, get_or, map, take, refl, sym, ap, ◌∙◌, arith, Option, Some, None}
+use Rattle.std.specs.Prelude.{ℤ, pos, is_some, is_none, unwrap_or, replicate, count_by, not, ◌⊎◌}
 use Rattle.std.specs.List.{AllZip, list_all}
 use Rattle.std.proofs.lemmas.List.{length-map, get_or-replicate}
 use Rattle.vortex_buffer.proofs.Counts.{all_counted}

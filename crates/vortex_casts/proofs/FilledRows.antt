@@ -1,6 +1,6 @@
 -- Rows whose nulls are filled.
-use Rattle.std.proofs.Common.{ℕ, zero, suc, ◌<◌, ◌≡◌, ◌+◌, Bool, true, false, cond, List, [], ◌∷◌, ◌++◌, length, get_or, take, map, refl, sym, ap, ◌∙◌, arith, Option, Some, None}
-use Rattle.std.specs.Prelude.{IsTrue, replicate}
+use Rattle.std.proofs.Common.{ℕ, zero, suc, ◌<◌, ◌≡◌, ◌+◌, Bool, true, false, cond, List, [], ◌∷◌, ◌++◌, length, get_or, take, map, refl, sym, ap, ◌∙◌, arith, Some, None}
+use Rattle.std.specs.Prelude.{◌&&◌, ◌||◌, IsTrue, not, replicate}
 use Rattle.std.specs.List.{AllZip}
 use Rattle.std.specs.Simd.Lanes.{zip2}
 use Rattle.std.proofs.lemmas.List.{ext_get_or, get_or_default, length-replicate, length-map, get_or-map, get_or-replicate}
@@ -137,3 +137,21 @@ length-under fill xs bits e = length-zip2 (λ x p. cond p x fill) xs bits (sym e
 pub under-here : {X : Type 0} (fill : X) (xs : List X) (bits : List Bool) (i : ℕ) (x d : X) → length bits ≡ length xs → i < length xs → x ≡ cond (get_or bits i false) (get_or xs i d) fill
     → x ≡ get_or (filled_items fill xs bits) i x
 under-here fill xs bits i x d e l h = filled-here fill (Bits bits) xs i x d ((Decides-eqb (length bits) (length xs)).1 e) l h
+
+-- bits filled with one that is not set are set where they are present and set
+pub filled-unset : (bits present : List Bool) → zip2 ◌&&◌ bits present ≡ filled_items false bits present
+filled-unset [] present = refl
+filled-unset (b ∷ bits) [] = refl
+filled-unset (false ∷ bits) (false ∷ present) = ap (λ bs. false ∷ bs) (filled-unset bits present)
+filled-unset (false ∷ bits) (true ∷ present) = ap (λ bs. false ∷ bs) (filled-unset bits present)
+filled-unset (true ∷ bits) (false ∷ present) = ap (λ bs. false ∷ bs) (filled-unset bits present)
+filled-unset (true ∷ bits) (true ∷ present) = ap (λ bs. true ∷ bs) (filled-unset bits present)
+
+-- bits filled with one that is set are set where they are set or not present
+pub filled-set : (bits present : List Bool) → zip2 ◌||◌ bits (map not present) ≡ filled_items true bits present
+filled-set [] present = refl
+filled-set (b ∷ bits) [] = refl
+filled-set (false ∷ bits) (false ∷ present) = ap (λ bs. true ∷ bs) (filled-set bits present)
+filled-set (false ∷ bits) (true ∷ present) = ap (λ bs. false ∷ bs) (filled-set bits present)
+filled-set (true ∷ bits) (false ∷ present) = ap (λ bs. true ∷ bs) (filled-set bits present)
+filled-set (true ∷ bits) (true ∷ present) = ap (λ bs. true ∷ bs) (filled-set bits present)

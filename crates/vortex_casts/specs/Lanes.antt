@@ -1,5 +1,5 @@
 -- Numbers that are written in another width, and the rows that are not null.
-use Rattle.std.specs.Prelude.{◌≡◌, ◌<◌, ℕ, ℤ, pos, Bool, true, false, List, length, slice_index_or, Option, None, Some, cond, nat_lt}
+use Rattle.std.specs.Prelude.{◌≡◌, ◌<◌, ℕ, ℤ, pos, true, false, List, length, slice_index_or, Option, None, Some, cond, nat_lt}
 use Rattle.vortex_types.specs.declared.types.PType.{PType}
 use Rattle.vortex_types.specs.Row.{in_width}
 use Rattle.vortex_types.specs.declared.types.Nullability.{Nullability}

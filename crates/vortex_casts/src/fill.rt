@@ -12,7 +12,7 @@ use vortex_buffer::{BitBuffer, Buffer};
 use vortex_columns::{
     BoolArray, DecimalArray, DecimalBuffer, DecimalValue, PrimitiveArray, PrimitiveBuffer, Validity,
 };
-use vortex_compute::{IndexedSource, collect_lane_bits, map_into};
+use vortex_compute::{IndexedSource, map_into};
 use vortex_types::{NativeValue, Nullability};
 
 // The items, and the fill at the places that are not valid.
@@ -119,31 +119,6 @@ fn full_validity(nullability: Nullability) -> Validity
     }
 }
 
-// The bits, and the fill at the places that are not valid, as lanes.
-#[derive(Clone, Copy)]
-struct FilledBits<'a> {
-    bits: &'a BitBuffer,
-    validity: &'a Validity,
-    fill: bool,
-    ghost long: { IsTrue (is_as_long validity.now (length bits.now)) },
-}
-
-impl IndexedSource for FilledBits<'_> {
-    type Item = bool;
-
-    ghost lanes = { λ s. filled_items s.fill s.bits.now (valid_bits s.validity.now (length s.bits.now)) };
-
-    #[inline(always)]
-    fn len(&self) -> usize {
-        self.bits.len()
-    }
-
-    #[inline(always)]
-    fn get(&self, i: usize) -> bool {
-        item_or(self.bits.value(i), self.validity.is_valid(i), self.fill)
-    }
-}
-
 /// The truth values, and the fill in the null rows, of a type with nulls or without.
 pub fn fill_bools(
     alloc: Global,
@@ -160,7 +135,7 @@ pub fn fill_bools(
     }
 }
 
-// The bits, and the fill at the places that are not valid.
+// The bits, and the fill at the places that are not valid, word by word.
 fn fill_bits(
     alloc: Global,
     bits: &BitBuffer,
@@ -170,13 +145,13 @@ fn fill_bits(
     requires { IsTrue (is_as_long validity.now (length bits.now)) }
     ensures { IfOk result (λ b. b ≡ filled_items fill bits.now (valid_bits validity.now (length bits.now))) }
 {
-    let lanes = FilledBits {
-        bits,
-        validity,
-        fill,
-    };
-    let filled = collect_lane_bits(alloc, &lanes, |bit: bool| bit)?;
-    Ok(filled)
+    let valid = validity.to_bits(alloc, bits.len())?;
+    if fill {
+        let filled = valid.not(alloc)?;
+        bits.or(alloc, &filled)
+    } else {
+        bits.and(alloc, &valid)
+    }
 }
 
 // The numbers of one width, and the fill at the places that are not valid.

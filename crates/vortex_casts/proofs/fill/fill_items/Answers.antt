@@ -1,7 +1,5 @@
-use Rattle.std.proofs.Common.{◌∙◌, sym, ap, length, false}
-use Rattle.std.proofs.lemmas.List.{length-replicate}
+use Rattle.std.proofs.Common.{◌∙◌, sym}
 use Rattle.std.proofs.lemmas.Result.{IfOk-weaker}
-use Rattle.vortex_casts.specs.Filled.{filled_items}
 use Rattle.vortex_casts.proofs.FilledRows.{filled-all}
 use Rattle.vortex_casts.proofs.fill.fill_items.Goals as goal
 

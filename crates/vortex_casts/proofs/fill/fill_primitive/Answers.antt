@@ -3,7 +3,6 @@ use Rattle.std.proofs.lemmas.Int.{to_z-of_z}
 use Rattle.vortex_types.specs.declared.types.DType.TheVariants as dtypes
 use Rattle.vortex_types.specs.declared.scalar.Value.TheVariants as values
 use Rattle.vortex_columns.specs.Kinds.{primitive_column, numbers_of, ptype_of}
-use Rattle.vortex_casts.specs.Filled.{filled}
 use Rattle.vortex_casts.proofs.FilledRows.{filled-column}
 use Rattle.vortex_casts.proofs.fill.fill_primitive.Goals as goal
 

@@ -1,6 +1,6 @@
-use Rattle.std.proofs.Common.{◌∙◌, sym, arith, map, rules}
+use Rattle.std.proofs.Common.{rules}
 use Rattle.std.proofs.lemmas.Result.{on_ok_weaker, MatchResult-weaker}
-use Rattle.vortex_casts.proofs.Converted.{Converts, converted-all, outside-all}
+use Rattle.vortex_casts.proofs.Converted.{converted-all, outside-all}
 use Rattle.vortex_casts.proofs.lanes.convert_all.Goals as goal
 
 pub returns-clause-same : goal.returns-clause-same

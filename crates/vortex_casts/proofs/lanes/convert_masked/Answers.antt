@@ -1,6 +1,6 @@
-use Rattle.std.proofs.Common.{◌∙◌, sym, arith, map, rules}
+use Rattle.std.proofs.Common.{rules}
 use Rattle.std.proofs.lemmas.Result.{on_ok_weaker, MatchResult-weaker}
-use Rattle.vortex_casts.proofs.Converted.{Converts, converted-masked, outside-masked}
+use Rattle.vortex_casts.proofs.Converted.{converted-masked, outside-masked}
 use Rattle.vortex_casts.proofs.lanes.convert_masked.Goals as goal
 
 pub returns-clause-same : goal.returns-clause-same

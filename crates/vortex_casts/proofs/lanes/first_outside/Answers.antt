@@ -1,4 +1,4 @@
-use Rattle.std.proofs.Common.{◌∙◌, sym, arith, map}
+use Rattle.std.proofs.Common.{◌∙◌, sym, map}
 use Rattle.vortex_casts.proofs.Converted.{within-more}
 use Rattle.vortex_casts.proofs.lanes.first_outside.Goals as goal
 

@@ -1,4 +1,4 @@
-use Rattle.std.proofs.Common.{◌∙◌, sym, arith}
+use Rattle.std.proofs.Common.{◌∙◌, sym}
 use Rattle.vortex_casts.proofs.Converted.{counted-valid}
 use Rattle.vortex_casts.proofs.nulls.first_unset.Goals as goal
 

@@ -1,4 +1,3 @@
-use Rattle.std.proofs.Common.{◌≡◌}
 use Rattle.vortex_columns.specs.declared.validity.Validity.TheVariants.{Bits}
 use Rattle.vortex_casts.specs.Lanes.{NoNull}
 use Rattle.vortex_casts.proofs.nulls.first_unset.Given as goal

@@ -1,4 +1,4 @@
-use Rattle.std.proofs.Common.{◌∙◌, ap, false, refl, map}
+use Rattle.std.proofs.Common.{◌∙◌, ap, false, refl}
 use Rattle.vortex_types.specs.declared.types.DType.TheVariants as dtypes
 use Rattle.vortex_types.specs.declared.scalar.Value.TheVariants as values
 use Rattle.vortex_columns.specs.Kinds.{bool_column}

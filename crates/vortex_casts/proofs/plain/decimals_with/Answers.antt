@@ -1,4 +1,4 @@
-use Rattle.std.proofs.Common.{◌∙◌, ap, refl, map}
+use Rattle.std.proofs.Common.{◌∙◌, ap}
 use Rattle.std.specs.Prelude.{pos}
 use Rattle.vortex_types.specs.declared.types.DType.TheVariants as dtypes
 use Rattle.vortex_types.specs.declared.scalar.Value.TheVariants as values

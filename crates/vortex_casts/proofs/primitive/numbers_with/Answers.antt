@@ -1,4 +1,4 @@
-use Rattle.std.proofs.Common.{◌∙◌, ap, refl, map, arith, sym}
+use Rattle.std.proofs.Common.{◌∙◌, ap, arith}
 use Rattle.std.proofs.lemmas.Result.{IfOk-weaker, MatchResult-weaker}
 use Rattle.vortex_columns.specs.Kinds.{primitive_column, numbers_of, ptype_of, nullability_of}
 use Rattle.vortex_casts.proofs.CastNumbers.{null-refused, numbers-cast, number-cast-column, refused-first}

@@ -1,4 +1,3 @@
-use Rattle.std.proofs.Common.{◌≡◌}
 use Rattle.vortex_casts.specs.Texts.{AllPresent}
 use Rattle.vortex_casts.proofs.texts.first_null_row.Given as goal
 

@@ -1,4 +1,4 @@
-use Rattle.std.proofs.Common.{rules, arith, ◌<◌, ◌∙◌, ap, false, cond, length, get_or}
+use Rattle.std.proofs.Common.{rules, arith, ◌<◌, ◌∙◌, ap, cond, length, get_or}
 use Rattle.vortex_casts.proofs.FilledRows.{length-under, under-here}
 use Rattle.vortex_casts.proofs.fill.FilledItemsIndexedSource.get.Goals as goal
 

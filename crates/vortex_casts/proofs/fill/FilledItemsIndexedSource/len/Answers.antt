@@ -1,4 +1,4 @@
-use Rattle.std.proofs.Common.{◌∙◌, sym}
+use Rattle.std.proofs.Common.{sym}
 use Rattle.vortex_casts.proofs.FilledRows.{length-under}
 use Rattle.vortex_casts.proofs.fill.FilledItemsIndexedSource.len.Goals as goal
 

@@ -1,17 +1,19 @@
 -- Sources that were cleared or scanned have the content that they had.
-use Rattle.std.proofs.Common.{◌≡◌, ◌∙◌, ap, refl, sym, subst, ℕ, List, [], ◌∷◌}
+use Rattle.std.proofs.Common.{◌≡◌, ◌∙◌, All, ap, refl, sym, subst, ℕ, List, [], ◌∷◌}
 use Rattle.std.specs.Prelude.{Option, Some}
 use Rattle.std.specs.List.{AllZip}
+use Rattle.std.proofs.lemmas.List.Elements.{All-cons, All-head, All-nil, All-tail}
 use Rattle.vortex_io.specs.Memory.{MemoryState}
 use Rattle.vortex_table.specs.declared.chunk.Chunk.{Chunk}
 use Rattle.vortex_table.specs.declared.describe.PartitionDesc.{PartitionDesc}
 use Rattle.vortex_table.specs.ChunkOf.{content_of}
 use Rattle.vortex_table.specs.Given.{contents_of}
-use Rattle.vortex_table.specs.State.{IsCleared, Stands}
+use Rattle.vortex_table.specs.State.{ArrivesInOrder, IsCleared, Stands, TableState}
 use Rattle.vortex_table.specs.Table.{Content, FitsPartition}
+use Rattle.judged_scans.specs.Ready.{IsReady}
 
 abbrev Cleared : MemoryState Chunk → MemoryState Chunk → Type 0
-Cleared = IsCleared (λ (s : MemoryState Chunk). s.outstanding) (λ (s : MemoryState Chunk). Some s.chunks) (λ (s : MemoryState Chunk). Some s.journal) (λ (s : MemoryState Chunk). s.faults)
+Cleared = IsCleared (λ (s : MemoryState Chunk). s.outstanding) (λ (s : MemoryState Chunk). Some s.chunks) (λ (s : MemoryState Chunk). Some s.journal) (λ (s : MemoryState Chunk). s.faults) (λ (s t : MemoryState Chunk). t ≡ record s { outstanding = [] })
 
 same_chunks : (s t : List (List Chunk)) → Some s ≡ Some t → s ≡ t
 same_chunks s t e = cc e
@@ -31,11 +33,29 @@ scanned [] (y ∷ ys) z = absurd z
 scanned (x ∷ xs) [] z = absurd z
 scanned (x ∷ xs) (y ∷ ys) z = one_more x y xs ys z.0.chunks (scanned xs ys z.1)
 
--- a table of content that fits is made of sources that fit
-pub fit_made : (ps qs : List PartitionDesc) (contents : List Content) (xs ys : List (MemoryState Chunk)) → AllZip FitsPartition ps contents → contents ≡ contents_of xs → qs ≡ ps → AllZip Cleared xs ys
-    → AllZip FitsPartition qs (contents_of ys)
-fit_made ps qs contents xs ys f e p z = subst (λ c. AllZip FitsPartition qs c) (e ∙ sym (cleared xs ys z)) (subst (λ q. AllZip FitsPartition q contents) (sym p) f)
+cleared_arrive : (xs ys : List (MemoryState Chunk)) → AllZip Cleared xs ys → All ArrivesInOrder xs → All ArrivesInOrder ys
+cleared_arrive [] [] z arrive = All-nil ArrivesInOrder
+cleared_arrive [] (y ∷ ys) z arrive = absurd z
+cleared_arrive (x ∷ xs) [] z arrive = absurd z
+cleared_arrive (x ∷ xs) (y ∷ ys) z arrive = All-cons ArrivesInOrder y ys (ap (λ (s : MemoryState Chunk). s.arrive) z.0.stated ∙ All-head ArrivesInOrder x xs arrive) (cleared_arrive xs ys z.1 (All-tail ArrivesInOrder x xs arrive))
 
--- and after a scan they fit still
-pub fit_scanned : (ps qs : List PartitionDesc) (xs ys : List (MemoryState Chunk)) → AllZip FitsPartition ps (contents_of xs) → qs ≡ ps → AllZip Stands xs ys → AllZip FitsPartition qs (contents_of ys)
-fit_scanned ps qs xs ys f p z = subst (λ c. AllZip FitsPartition qs c) (sym (scanned xs ys z)) (subst (λ q. AllZip FitsPartition q (contents_of xs)) (sym p) f)
+scanned_arrive : (xs ys : List (MemoryState Chunk)) → AllZip Stands xs ys → All ArrivesInOrder xs → All ArrivesInOrder ys
+scanned_arrive [] [] z arrive = All-nil ArrivesInOrder
+scanned_arrive [] (y ∷ ys) z arrive = absurd z
+scanned_arrive (x ∷ xs) [] z arrive = absurd z
+scanned_arrive (x ∷ xs) (y ∷ ys) z arrive = All-cons ArrivesInOrder y ys (z.0.arrive ∙ All-head ArrivesInOrder x xs arrive) (scanned_arrive xs ys z.1 (All-tail ArrivesInOrder x xs arrive))
+
+-- a table of content that fits, over sources that arrive in order, is ready
+pub fit_made : (ps : List PartitionDesc) (table : TableState (MemoryState Chunk)) (contents : List Content) (xs : List (MemoryState Chunk)) → AllZip FitsPartition ps contents → contents ≡ contents_of xs → All ArrivesInOrder xs → table.partitions ≡ ps
+    → AllZip Cleared xs table.sources → IsReady table
+fit_made ps table contents xs f e arrive p z = record {
+  arrives = cleared_arrive xs table.sources z arrive;
+  fits = subst (λ c. AllZip FitsPartition table.partitions c) (e ∙ sym (cleared xs table.sources z)) (subst (λ q. AllZip FitsPartition q contents) (sym p) f);
+}
+
+-- and is so after a scan
+pub fit_scanned : (old new : TableState (MemoryState Chunk)) → IsReady old → new.partitions ≡ old.partitions → AllZip Stands old.sources new.sources → IsReady new
+fit_scanned old new ready p z = record {
+  arrives = scanned_arrive old.sources new.sources z ready.arrives;
+  fits = subst (λ c. AllZip FitsPartition new.partitions c) (sym (scanned old.sources new.sources z)) (subst (λ q. AllZip FitsPartition q (contents_of old.sources)) (sym p) ready.fits);
+}

@@ -1,168 +1,107 @@
-// What the cases share: columns, filters, rows and tables of one column.
-//
-// A test holds no filter, request, table or question beside a `?`, since each way out of a function lets go of all that
-// it holds, and the proof goes through each part of it: small functions own these values, and a test sees what they say
-// of them. Filters and requests are let go of by a call of `drop`, whose proof is one for all callers.
-use sqlite_items::Boxed;
+// What the cases share: values, columns, rows and tables as texts. A value is `7`, `null` or, for a decimal, `d7`; a column its
+// name, with its type where that is not `u64`, as `qty:i32?`; the rows of a table of one column its values, which commas
+// part, with a bar between two partitions.
 use std::alloc::{AllocError, Global};
 use std::test::Fail;
-use vortex_array::{
-    ColumnDesc, CompareOperator, DType, Filter, Name, Nullability, Operand, PType, Scalar, Text,
-    Value,
-};
-use vortex_judge::{PlacedRow, PlainRow, PlainRows, PlainTable};
-use vortex_table::{ScanRequest, WorkScope};
+use vortex_array::{ColumnDesc, DType, DecimalDType, Name, Nullability, PType, Value};
+use vortex_judge::{PlainRow, PlainRows, PlainTable};
 
 pub const U64: DType = DType::Primitive(PType::U64, Nullability::NonNullable);
 
-pub const I32_OR_NULL: DType = DType::Primitive(PType::I32, Nullability::Nullable);
-
 pub const TEXT: DType = DType::Utf8(Nullability::NonNullable);
 
-/// What stands for null among the numbers of a case.
-pub const NULL: i128 = -1;
+/// What stands before and behind the arrow of a case.
+pub fn sides(line: &str) -> Result<(&str, &str), Fail> {
+    Ok(line.split_once(" → ").ok_or("a case without an arrow")?)
+}
+
+/// What stands before and behind the first space.
+pub fn halves(written: &str) -> Result<(&str, &str), Fail> {
+    Ok(written.split_once(' ').ok_or("a case without a space")?)
+}
 
 pub fn name(alloc: Global, text: &str) -> Result<Name, AllocError> {
     Name::from_str(alloc, text)
 }
 
-pub fn text(alloc: Global, text: &str) -> Result<Value, AllocError> {
-    Ok(Value::Utf8(Text::from_str(alloc, text)?))
+pub fn value_of(written: &str) -> Result<Option<Value>, Fail> {
+    if written == "null" {
+        return Ok(None);
+    }
+    match written.strip_prefix('d') {
+        Some(number) => Ok(Some(Value::Decimal(number.parse::<i128>()?))),
+        None => Ok(Some(Value::Int(written.parse::<i128>()?))),
+    }
 }
 
-pub fn column(alloc: Global, text: &str) -> Result<Operand, AllocError> {
-    Ok(Operand::Column(name(alloc, text)?))
+// A decimal with so many digits behind the point.
+fn decimal(scale: i8) -> Result<DType, Fail> {
+    Ok(DType::Decimal(DecimalDType::try_new(5, scale)?, Nullability::NonNullable))
 }
 
-pub fn constant(dtype: DType, value: Option<Value>) -> Result<Operand, Fail> {
-    Ok(Operand::Constant(Scalar::try_new(dtype, value)?))
+pub fn dtype_of(written: &str) -> Result<DType, Fail> {
+    match written {
+        "u64?" => Ok(DType::Primitive(PType::U64, Nullability::Nullable)),
+        "i64" => Ok(DType::Primitive(PType::I64, Nullability::NonNullable)),
+        "i32?" => Ok(DType::Primitive(PType::I32, Nullability::Nullable)),
+        "utf8" => Ok(TEXT),
+        "hundredths" => decimal(2),
+        "thousandths" => decimal(3),
+        _ => Ok(U64),
+    }
 }
 
-/// The column compared with a number of the column's type.
-pub fn compare(
-    alloc: Global,
-    operator: CompareOperator,
-    text: &str,
-    dtype: DType,
-    number: i128,
-) -> Result<Filter, Fail> {
-    let column = column(alloc, text)?;
-    let number = constant(dtype, Some(Value::Int(number)))?;
-    Ok(Filter::Compare(operator, column, number))
-}
-
-/// Whether the column is above a number of the column's type.
-pub fn above(alloc: Global, text: &str, dtype: DType, number: i128) -> Result<Filter, Fail> {
-    compare(alloc, CompareOperator::Gt, text, dtype, number)
-}
-
-/// A filter as a part of another. It comes as it was made, so that no caller holds it.
-pub fn boxed(alloc: Global, filter: Result<Filter, Fail>) -> Result<Boxed<Filter>, Fail> {
-    Ok(Boxed::new(alloc, filter?)?)
-}
-
-/// A request for the rows that a filter keeps.
-pub fn filtered(filter: Filter) -> ScanRequest {
-    let mut request = ScanRequest::default();
-    request.filter = Some(filter);
-    request
-}
-
-fn desc(alloc: Global, text: &str, dtype: DType) -> Result<ColumnDesc, AllocError> {
+fn column_desc(alloc: Global, written: &str) -> Result<ColumnDesc, Fail> {
+    let (text, dtype) = written.split_once(':').unwrap_or((written, "u64"));
+    let dtype = dtype_of(dtype)?;
     Ok(ColumnDesc {
         name: name(alloc, text)?,
         dtype,
     })
 }
 
-/// Puts a column behind others.
-pub fn push_column(
-    alloc: Global,
-    columns: &mut Vec<ColumnDesc>,
-    text: &str,
-    dtype: DType,
-) -> Result<(), AllocError> {
-    columns.push(desc(alloc, text, dtype)?)?;
-    Ok(())
-}
-
-/// One column.
-pub fn one_column(alloc: Global, text: &str, dtype: DType) -> Result<Vec<ColumnDesc>, AllocError> {
+/// The columns, which commas part.
+pub fn columns(alloc: Global, written: &str) -> Result<Vec<ColumnDesc>, Fail> {
     let mut columns = Vec::new(alloc);
-    push_column(alloc, &mut columns, text, dtype)?;
+    for piece in written.split(',') {
+        columns.push(column_desc(alloc, piece)?)?;
+    }
     Ok(columns)
 }
 
-/// A number or null.
-pub fn cell(number: i128) -> Option<Value> {
-    if number == NULL {
-        None
-    } else {
-        Some(Value::Int(number))
-    }
-}
-
-/// The numbers as values and nulls.
-pub fn cells(alloc: Global, numbers: &[i128]) -> Result<PlainRow, AllocError> {
+/// The values, which commas part.
+pub fn cells_of(alloc: Global, written: &str) -> Result<PlainRow, Fail> {
     let mut cells = Vec::new(alloc);
-    for number in numbers {
-        cells.push(cell(*number))?;
+    for piece in written.split(',') {
+        if !piece.is_empty() {
+            cells.push(value_of(piece)?)?;
+        }
     }
     Ok(PlainRow::new(cells))
 }
 
-/// Rows of one column.
-pub fn rows_of(alloc: Global, numbers: &[i128]) -> Result<PlainRows, AllocError> {
+// Rows of one column.
+fn rows_of(alloc: Global, written: &str) -> Result<PlainRows, Fail> {
     let mut rows = Vec::new(alloc);
-    for number in numbers {
-        rows.push(cells(alloc, &[*number])?)?;
+    for piece in written.split(',') {
+        if !piece.is_empty() {
+            rows.push(cells_of(alloc, piece)?)?;
+        }
     }
     Ok(PlainRows::new(rows))
 }
 
-fn one_partition(alloc: Global, numbers: &[i128]) -> Result<Vec<PlainRows>, AllocError> {
+fn partitions_of(alloc: Global, written: &str) -> Result<Vec<PlainRows>, Fail> {
     let mut partitions = Vec::new(alloc);
-    partitions.push(rows_of(alloc, numbers)?)?;
+    for piece in written.split('|') {
+        partitions.push(rows_of(alloc, piece)?)?;
+    }
     Ok(partitions)
 }
 
-/// A table of one column and one partition.
-pub fn table_of(
-    alloc: Global,
-    text: &str,
-    dtype: DType,
-    numbers: &[i128],
-) -> Result<PlainTable, AllocError> {
-    let columns = one_column(alloc, text, dtype)?;
-    let partitions = one_partition(alloc, numbers)?;
+/// A table of one column.
+pub fn table_of(alloc: Global, names: &str, written: &str) -> Result<PlainTable, Fail> {
+    let columns = columns(alloc, names)?;
+    let partitions = partitions_of(alloc, written)?;
     Ok(PlainTable::new(columns, partitions))
-}
-
-/// These rows of the first partition.
-pub fn scope(start: u64, end: u64) -> WorkScope {
-    WorkScope {
-        file_ordinal: 0,
-        rows: start..end,
-    }
-}
-
-// The number in the first column.
-fn number_in(row: &PlacedRow) -> i128 {
-    match row.values() {
-        [Some(Value::Int(number)), ..] => *number,
-        _ => NULL,
-    }
-}
-
-/// Whether the numbers in the first column are these.
-pub fn have_numbers(rows: &[PlacedRow], numbers: &[i128]) -> bool {
-    if rows.len() != numbers.len() {
-        return false;
-    }
-    for index in 0..rows.len() {
-        if number_in(&rows[index]) != numbers[index] {
-            return false;
-        }
-    }
-    true
 }

@@ -1,330 +1,180 @@
-// Which batches are answers.
-use crate::cases::{I32_OR_NULL, NULL, U64, above, cells, filtered, scope, table_of};
-use std::alloc::{AllocError, Global};
+// Which batches are answers. A question has the splits, the types of its columns, and a table and a request that choose its
+// rows. A case has a name, the limit and batches, and then whether they are an answer without and with order.
+use crate::batches::{are_answer_to, scope_of};
+use crate::cases::{dtype_of, halves, sides};
+use crate::choosing::chosen;
+use std::alloc::Global;
 use std::test::Fail;
 use vortex_array::DType;
-use vortex_judge::{
-    PlacedRow, PlainBatch, PlainColumn, PlainTable, Question, answers, chosen_rows,
-};
-use vortex_table::{ScanRequest, WorkScope};
+use vortex_judge::Question;
+use vortex_table::WorkScope;
 
-fn three_scopes(alloc: Global) -> Result<Vec<WorkScope>, AllocError> {
+fn scopes_of(alloc: Global, written: &str) -> Result<Vec<WorkScope>, Fail> {
     let mut scopes = Vec::new(alloc);
-    for start in [0, 2, 4] {
-        scopes.push(scope(start, start.saturating_add(2)))?;
+    for piece in written.split(' ') {
+        scopes.push(scope_of(piece)?)?;
     }
     Ok(scopes)
 }
 
-fn one_type(alloc: Global, dtype: DType) -> Result<Vec<DType>, AllocError> {
+fn types_of(alloc: Global, written: &str) -> Result<Vec<DType>, Fail> {
     let mut types = Vec::new(alloc);
-    types.push(dtype)?;
+    for piece in written.split(',') {
+        if !piece.is_empty() {
+            types.push(dtype_of(piece)?)?;
+        }
+    }
     Ok(types)
 }
 
-// The question over three splits of two rows.
+fn parts(written: &str) -> Result<(&str, &str), Fail> {
+    Ok(written.split_once(';').ok_or("a case without a part")?)
+}
+
+fn three_parts(written: &str) -> Result<(&str, &str, &str), Fail> {
+    let (first, rest) = parts(written)?;
+    let (second, third) = parts(rest)?;
+    Ok((first, second, third))
+}
+
 fn question_of(
     alloc: Global,
-    dtype: DType,
-    rows: Vec<PlacedRow>,
+    asked: &str,
     limit: Option<u64>,
     ordered: bool,
 ) -> Result<Question, Fail> {
-    let scopes = three_scopes(alloc)?;
-    let types = one_type(alloc, dtype)?;
+    let (splits, types, given) = three_parts(asked)?;
+    let rows = chosen(alloc, given)?;
+    let scopes = scopes_of(alloc, splits)?;
+    let types = types_of(alloc, types)?;
     Ok(Question::new(scopes, types, rows, limit, ordered))
 }
 
-fn all_rows(alloc: Global, table: &PlainTable) -> Result<Vec<PlacedRow>, AllocError> {
-    let request = ScanRequest::default();
-    let rows = chosen_rows(alloc, &request, table);
-    drop(request);
-    rows
+fn limit_of(written: &str) -> Result<Option<u64>, Fail> {
+    if written == "none" {
+        return Ok(None);
+    }
+    Ok(Some(written.parse::<u64>()?))
 }
 
-// The rows 1 to 6.
-fn one_to_six(alloc: Global) -> Result<Vec<PlacedRow>, AllocError> {
-    let table = table_of(alloc, "a", U64, &[1, 2, 3, 4, 5, 6])?;
-    all_rows(alloc, &table)
+// Whether the batches answer the question, with this limit and wish for order, as the word says.
+fn is_judged_so(
+    alloc: Global,
+    asked: &str,
+    case: (Option<u64>, &str),
+    ordered: bool,
+    want: &str,
+) -> Result<bool, Fail> {
+    let question = question_of(alloc, asked, case.0, ordered)?;
+    Ok(are_answer_to(alloc, &question, case.1)? == (want == "yes"))
+}
+
+// The limit and the batches of a case.
+fn case_of(given: &str) -> Result<(Option<u64>, &str), Fail> {
+    let (_case, limit, batches) = three_parts(given)?;
+    Ok((limit_of(limit)?, batches))
+}
+
+// Whether a case is judged as the two words say, without and with order.
+fn is_judged_both_ways(
+    alloc: Global,
+    asked: &str,
+    case: (Option<u64>, &str),
+    want: &str,
+) -> Result<bool, Fail> {
+    let (without_order, in_order) = halves(want)?;
+    Ok(
+        is_judged_so(alloc, asked, case, false, without_order)?
+            && is_judged_so(alloc, asked, case, true, in_order)?,
+    )
+}
+
+fn is_right(alloc: Global, asked: &str, line: &str) -> Result<bool, Fail> {
+    let (given, want) = sides(line)?;
+    is_judged_both_ways(alloc, asked, case_of(given)?, want)
+}
+
+// The first of the cases that is not right, if there is one.
+fn first_wrong<'a>(alloc: Global, asked: &str, cases: &'a str) -> Result<&'a str, Fail> {
+    for line in cases.lines() {
+        if !is_right(alloc, asked, line)? {
+            return Ok(line);
+        }
+    }
+    Ok("")
 }
 
 // The question for the rows 1 to 6, two of them in each split.
-fn six_rows(alloc: Global, limit: Option<u64>, ordered: bool) -> Result<Question, Fail> {
-    question_of(alloc, U64, one_to_six(alloc)?, limit, ordered)
-}
+const SIX: &str = "0..2 2..4 4..6;u64;a 1,2,3,4,5,6 all";
 
-fn batch(
-    alloc: Global,
-    scope: WorkScope,
-    dtype: DType,
-    numbers: &[i128],
-) -> Result<PlainBatch, AllocError> {
-    let mut columns = Vec::new(alloc);
-    columns.push(PlainColumn::new(dtype, cells(alloc, numbers)?))?;
-    Ok(PlainBatch::new(scope, numbers.len() as u64, columns))
-}
+const LIMITED: &str = "\
+the last split, and then a part of the middle one;3;4..6=5,6 2..4=3 → yes no
+the first split, and then a part of the middle one;3;0..2=1,2 2..4=3 → yes yes
+a part of each;3;0..2=1 4..6=5 2..4=3 → yes no
+a part, and then a whole split;3;0..2=1 2..4=3,4 → yes no
+no batch;3; → no no
+a row too many;3;0..2=1,2 2..4=3,4 → no no
+a row too few;3;0..2=1,2 → no no
+not the first row of its split;3;0..2=1,2 2..4=4 → no no
+a limit of no rows;0; → yes yes
+a row past a limit of none;0;0..2=1 → no no
+one split;2;2..4=3,4 → yes no
+another type;2;2..4:i32?=3,4 → no no
+half a split;2;2..3=3,4 → no no
+another partition;2;1/2..4=3,4 → no no";
 
-// A batch of one of the splits: the row at which the split starts, and two numbers, of which those that are null are
-// left out.
-#[derive(Clone, Copy)]
-struct Part {
-    start: u64,
-    numbers: [i128; 2],
-}
+const WHOLE: &str = "\
+in order;none;0..2=1,2 2..4=3,4 4..6=5,6 → yes yes
+reversed;none;4..6=5,6 2..4=3,4 0..2=1,2 → yes no
+no batch;none; → no no
+a split left out;none;0..2=1,2 4..6=5,6 → no no
+a row left out;none;0..2=1,2 2..4=3,4 4..6=5 → no no
+a split twice;none;0..2=1,2 2..4=3,4 4..6=5,6 4..6=5,6 → no no
+a split twice and another left out;none;0..2=1,2 2..4=3,4 2..4=3,4 → no no
+a row twice;none;0..2=1,2 2..4=3,4 4..6=5,5 → no no
+two batches of one split;none;0..2=1 0..2=2 2..4=3,4 4..6=5,6 → no no
+a split reversed;none;0..2=1,2 2..4=4,3 4..6=5,6 → no no
+rows in the wrong split;none;0..2=3,4 2..4=1,2 4..6=5,6 → no no
+an empty batch;none;0..2=1,2 2..4= 2..4=3,4 4..6=5,6 → no no
+a batch of no split;none;0..2=1,2 2..4=3,4 4..6=5,6 6..8=7,8 → no no";
 
-const FIRST: Part = Part {
-    start: 0,
-    numbers: [1, 2],
-};
-
-const SECOND: Part = Part {
-    start: 2,
-    numbers: [3, 4],
-};
-
-const THIRD: Part = Part {
-    start: 4,
-    numbers: [5, 6],
-};
-
-fn two(start: u64, first: i128, second: i128) -> Part {
-    Part {
-        start,
-        numbers: [first, second],
+fn first_wrong_of_six(alloc: Global) -> Result<&'static str, Fail> {
+    let wrong = first_wrong(alloc, SIX, LIMITED)?;
+    if wrong.is_empty() {
+        first_wrong(alloc, SIX, WHOLE)
+    } else {
+        Ok(wrong)
     }
-}
-
-fn one(start: u64, number: i128) -> Part {
-    two(start, number, NULL)
-}
-
-fn batch_of(alloc: Global, part: &Part) -> Result<PlainBatch, AllocError> {
-    let scope = scope(part.start, part.start.saturating_add(2));
-    let mut numbers = Vec::new(alloc);
-    for number in part.numbers {
-        if number != NULL {
-            numbers.push(number)?;
-        }
-    }
-    batch(alloc, scope, U64, &numbers)
-}
-
-fn batches_of(alloc: Global, parts: &[Part]) -> Result<Vec<PlainBatch>, AllocError> {
-    let mut batches = Vec::new(alloc);
-    for part in parts {
-        batches.push(batch_of(alloc, part)?)?;
-    }
-    Ok(batches)
-}
-
-fn are_answer_to(alloc: Global, question: &Question, parts: &[Part]) -> Result<bool, Fail> {
-    let batches = batches_of(alloc, parts)?;
-    Ok(answers(alloc, question, &batches)?)
-}
-
-// Whether these batches answer the question for six rows, with this limit and wish for order.
-fn answer(alloc: Global, limit: Option<u64>, ordered: bool, parts: &[Part]) -> Result<bool, Fail> {
-    let question = six_rows(alloc, limit, ordered)?;
-    are_answer_to(alloc, &question, parts)
 }
 
 #[test]
-fn limits_over_three_splits(rt: HostRuntime) -> Result<(), Fail> {
-    let alloc = rt.alloc();
-    for (case, parts, without_order, in_order) in [
-        (
-            "the last split, and then a part of the middle one",
-            [THIRD, one(2, 3)].as_slice(),
-            true,
-            false,
-        ),
-        (
-            "the first split, and then a part of the middle one",
-            [FIRST, one(2, 3)].as_slice(),
-            true,
-            true,
-        ),
-        (
-            "a part of each",
-            [one(0, 1), one(4, 5), one(2, 3)].as_slice(),
-            true,
-            false,
-        ),
-        (
-            "a part, and then a whole split",
-            [one(0, 1), SECOND].as_slice(),
-            true,
-            false,
-        ),
-        ("no batch", [].as_slice(), false, false),
-        ("a row too many", [FIRST, SECOND].as_slice(), false, false),
-        ("a row too few", [FIRST].as_slice(), false, false),
-        (
-            "not the first row of its split",
-            [FIRST, one(2, 4)].as_slice(),
-            false,
-            false,
-        ),
-    ] {
-        assert_eq!(rt;
-            answer(alloc, Some(3), false, parts)?,
-            without_order,
-            "{case}"
-        );
-        assert_eq!(rt;
-            answer(alloc, Some(3), true, parts)?,
-            in_order,
-            "{case}, ordered"
-        );
-    }
+fn answers_over_three_splits_with_and_without_a_limit(rt: HostRuntime) -> Result<(), Fail> {
+    assert_eq!(rt; first_wrong_of_six(rt.alloc())?, "");
     Ok(())
 }
 
-#[test]
-fn a_limit_of_no_rows(rt: HostRuntime) -> Result<(), Fail> {
-    let alloc = rt.alloc();
-    assert!(rt; answer(alloc, Some(0), true, &[])?);
-    assert!(rt; !answer(alloc, Some(0), true, &[one(0, 1)])?);
-    Ok(())
-}
+const ABOVE_TWO: &str = "0..2 2..4 4..6;i32?;qty:i32? 3,null qty,>,2:i32?";
 
-#[test]
-fn answers_without_a_limit(rt: HostRuntime) -> Result<(), Fail> {
-    let alloc = rt.alloc();
-    for (case, parts, without_order, in_order) in [
-        ("in order", [FIRST, SECOND, THIRD].as_slice(), true, true),
-        ("reversed", [THIRD, SECOND, FIRST].as_slice(), true, false),
-        ("no batch", [].as_slice(), false, false),
-        ("a split left out", [FIRST, THIRD].as_slice(), false, false),
-        (
-            "a row left out",
-            [FIRST, SECOND, one(4, 5)].as_slice(),
-            false,
-            false,
-        ),
-        (
-            "a split twice",
-            [FIRST, SECOND, THIRD, THIRD].as_slice(),
-            false,
-            false,
-        ),
-        (
-            "a split twice and another left out",
-            [FIRST, SECOND, SECOND].as_slice(),
-            false,
-            false,
-        ),
-        (
-            "a row twice",
-            [FIRST, SECOND, two(4, 5, 5)].as_slice(),
-            false,
-            false,
-        ),
-        (
-            "two batches of one split",
-            [one(0, 1), one(0, 2), SECOND, THIRD].as_slice(),
-            false,
-            false,
-        ),
-        (
-            "a split reversed",
-            [FIRST, two(2, 4, 3), THIRD].as_slice(),
-            false,
-            false,
-        ),
-        (
-            "rows in the wrong split",
-            [two(0, 3, 4), two(2, 1, 2), THIRD].as_slice(),
-            false,
-            false,
-        ),
-        (
-            "an empty batch",
-            [FIRST, one(2, NULL), SECOND, THIRD].as_slice(),
-            false,
-            false,
-        ),
-        (
-            "a batch of no split",
-            [FIRST, SECOND, THIRD, two(6, 7, 8)].as_slice(),
-            false,
-            false,
-        ),
-    ] {
-        assert_eq!(rt; answer(alloc, None, false, parts)?, without_order, "{case}");
-        assert_eq!(rt;
-            answer(alloc, None, true, parts)?,
-            in_order,
-            "{case}, ordered"
-        );
-    }
-    Ok(())
-}
-
-fn is_answer_to(
-    alloc: Global,
-    question: &Question,
-    scope: WorkScope,
-    dtype: DType,
-    numbers: &[i128],
-) -> Result<bool, Fail> {
-    let mut batches = Vec::new(alloc);
-    batches.push(batch(alloc, scope, dtype, numbers)?)?;
-    Ok(answers(alloc, question, &batches)?)
-}
-
-// Whether 3 and 4 under this scope and type answer the question for two of six rows.
-fn answers_two(alloc: Global, scope: WorkScope, dtype: DType) -> Result<bool, Fail> {
-    let question = six_rows(alloc, Some(2), false)?;
-    is_answer_to(alloc, &question, scope, dtype, &[3, 4])
-}
-
-#[test]
-fn types_and_scopes_have_to_agree(rt: HostRuntime) -> Result<(), Fail> {
-    let alloc = rt.alloc();
-    for (case, file_ordinal, end, dtype, want) in [
-        ("right", 0, 4, U64, true),
-        ("another type", 0, 4, I32_OR_NULL, false),
-        ("half a split", 0, 3, U64, false),
-        ("another partition", 1, 4, U64, false),
-    ] {
-        let scope = WorkScope {
-            file_ordinal,
-            rows: 2..end,
-        };
-        assert_eq!(rt; answers_two(alloc, scope, dtype)?, want, "{case}");
-    }
-    Ok(())
-}
-
-fn kept_by(alloc: Global, request: &ScanRequest) -> Result<Vec<PlacedRow>, Fail> {
-    let table = table_of(alloc, "qty", I32_OR_NULL, &[3, NULL])?;
-    Ok(chosen_rows(alloc, request, &table)?)
-}
-
-// Those of 3 and null that are above 2.
-fn kept(alloc: Global) -> Result<Vec<PlacedRow>, Fail> {
-    let request = filtered(above(alloc, "qty", I32_OR_NULL, 2)?);
-    let rows = kept_by(alloc, &request);
-    drop(request);
-    rows
-}
-
-// Whether these numbers answer the question for those above 2.
-fn answers_above_two(alloc: Global, numbers: &[i128]) -> Result<bool, Fail> {
-    let question = question_of(alloc, I32_OR_NULL, kept(alloc)?, None, false)?;
-    is_answer_to(alloc, &question, scope(0, 2), I32_OR_NULL, numbers)
-}
+const NULLS: &str = "\
+the row that is kept;none;0..2:i32?=3 → yes yes
+with the null row;none;0..2:i32?=3,null → no no
+the null row alone;none;0..2:i32?=null → no no";
 
 #[test]
 fn rows_whose_filter_is_null_are_no_answer(rt: HostRuntime) -> Result<(), Fail> {
-    let alloc = rt.alloc();
-    for (case, kept, want) in [
-        ("the row that is kept", [3].as_slice(), true),
-        ("the null row besides", [3, NULL].as_slice(), false),
-        ("the null row alone", [NULL].as_slice(), false),
-    ] {
-        assert_eq!(rt; answers_above_two(alloc, kept)?, want, "{case}");
-    }
+    assert_eq!(rt; first_wrong(rt.alloc(), ABOVE_TWO, NULLS)?, "");
+    Ok(())
+}
+
+const NO_COLUMNS: &str = "0..3;;a 1,2,3 columns";
+
+const COUNTED: &str = "\
+a row too few;none;0..3#2 → no no
+each row;none;0..3#3 → yes yes
+a row too many;none;0..3#4 → no no";
+
+#[test]
+fn rows_without_columns_are_counted(rt: HostRuntime) -> Result<(), Fail> {
+    assert_eq!(rt; first_wrong(rt.alloc(), NO_COLUMNS, COUNTED)?, "");
     Ok(())
 }

@@ -3,6 +3,10 @@
 #![tactic(auto)]
 
 #[cfg(test)]
+mod answering;
+#[cfg(test)]
+mod batches;
+#[cfg(test)]
 mod cases;
 #[cfg(test)]
 mod choosing;
@@ -11,4 +15,10 @@ mod filtering;
 #[cfg(test)]
 mod judging;
 #[cfg(test)]
+mod requests;
+#[cfg(test)]
 mod scanning;
+#[cfg(test)]
+mod stored;
+#[cfg(test)]
+mod tables;

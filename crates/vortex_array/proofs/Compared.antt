@@ -1,12 +1,11 @@
 -- Comparisons with constants, and between.
-use Rattle.std.proofs.Common.{ℕ, zero, suc, ◌≡◌, ◌==◌, Bool, true, false, ◌&&◌, List, [], ◌∷◌, length, map, refl, sym, ap, ◌∙◌, Option, None, Some}
-use Rattle.std.specs.Prelude.{IsTrue, replicate, option_map}
+use Rattle.std.proofs.Common.{ℕ, zero, suc, ◌≡◌, Bool, false, List, [], ◌∷◌, length, map, refl, sym, ap, ◌∙◌, Option, None, Some}
+use Rattle.std.specs.Prelude.{IsTrue, replicate}
 use Rattle.std.specs.Simd.Lanes.{zip2}
 use Rattle.std.proofs.lemmas.Bool.{false≢true}
 use Rattle.std.proofs.lemmas.List.{length-map, length-replicate}
 use Rattle.std.proofs.lemmas.Simd.{length-zip2, zip2_splat}
-use Rattle.vortex_buffer.proofs.Bits.{map-replicate}
-use Rattle.vortex_compute.specs.declared.compare.CompareOperator.{CompareOperator}
+use Rattle.vortex_buffer.specs.declared.compare_operator.CompareOperator.{CompareOperator}
 use Rattle.vortex_types.specs.Order.{compares}
 use Rattle.vortex_types.specs.Row.{Column, fits_type, is_nullable, nullability}
 use Rattle.vortex_types.specs.Truth.{both, all_three, lies_between, lower_operator, upper_operator}
@@ -20,7 +19,7 @@ use Rattle.vortex_types.specs.declared.scalar.Value.{Value}
 use Rattle.vortex_columns.specs.ByteRows.{is_bytes_type}
 use Rattle.vortex_columns.specs.Kinds.{constant_column}
 use Rattle.vortex_columns.specs.Parts.{ConstantParts}
-use Rattle.vortex_columns.specs.Truths.{answer_in, answers, both_true, bounded, compared, either, either_column, joined_strictly, truth_row, truths}
+use Rattle.vortex_columns.specs.Truths.{answer_in, both_true, bounded, compared, either, either_column, joined_strictly, truth_row, truths}
 use Rattle.vortex_columns.proofs.BothValid.{either_nullable}
 use Rattle.vortex_columns.proofs.TruthColumns.{column}
 use Rattle.vortex_columns.proofs.TruthLaws.{answers-back}
@@ -173,7 +172,3 @@ alike-bytes (dtype.Binary m) (dtype.Binary n) e = refl
 -- so no column of texts or bytes has the type of another kind
 pub no-bytes : (t u : DType) → IsTrue (same_apart_from_nullability t u) → IsTrue (is_bytes_type u) → is_bytes_type t ≡ false → ⊥
 no-bytes t u e k f = false≢true (sym f ∙ alike-bytes t u e ∙ k)
-
--- nor the other way round
-pub no-other-kind : (t u : DType) → IsTrue (same_apart_from_nullability t u) → IsTrue (is_bytes_type t) → is_bytes_type u ≡ false → ⊥
-no-other-kind t u e k f = false≢true (sym f ∙ sym (alike-bytes t u e) ∙ k)

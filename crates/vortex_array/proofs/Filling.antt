@@ -1,6 +1,6 @@
 -- Values as fills of columns of their type.
-use Rattle.std.proofs.Common.{ℕ, zero, suc, ◌≡◌, ◌==◌, Bool, true, false, ◌&&◌, List, [], ◌∷◌, length, map, replicate, refl, sym, ap, subst, ◌∙◌, Option, Some, None}
-use Rattle.std.specs.Prelude.{ℤ, IsTrue, slice_index_or}
+use Rattle.std.proofs.Common.{ℕ, zero, suc, ◌≡◌, ◌==◌, Bool, true, false, ◌&&◌, List, ◌∷◌, map, replicate, refl, sym, ap, subst, ◌∙◌, Option, Some, None}
+use Rattle.std.specs.Prelude.{IsTrue, slice_index_or}
 use Rattle.std.specs.Ordering.{int_eq}
 use Rattle.std.proofs.lemmas.Bool.Decides.{Decides-eqb, Decides-int_eq}
 use Rattle.vortex_types.specs.Digits.{Digits}
@@ -13,7 +13,7 @@ use Rattle.vortex_types.specs.declared.types.DType.{DType}
 use Rattle.vortex_types.specs.declared.types.DType.TheVariants as dtype
 use Rattle.vortex_types.specs.declared.scalar.Value.{Value}
 use Rattle.vortex_types.specs.declared.scalar.Value.TheVariants as value
-use Rattle.vortex_columns.specs.ByteRows.{bytes_value, is_bytes_type, is_text_type}
+use Rattle.vortex_columns.specs.ByteRows.{bytes_value, is_bytes_type}
 use Rattle.vortex_columns.specs.Kinds.{constant_column}
 use Rattle.vortex_columns.specs.Parts.{ConstantParts}
 use Rattle.vortex_selections.specs.Selected.{row_at, taken}

@@ -117,12 +117,6 @@ first_below (suc n) (suc k) d l = first_below n k d (omega (arith, l))
 first_set : (n : ℕ) (set : List Bool) → SetPlacesBelow 1 (map (λ i. i) (replicate n 0)) set
 first_set n set k l e = first_below n k 0 l
 
-pub first-below : (w : Validity) (n : ℕ) → PlacesBelow 1 w (map (λ i. i) (replicate n 0))
-first-below NonNullable n = first_below n
-first-below AllValid n = first_below n
-first-below AllInvalid n = tt
-first-below (Bits set) n = first_set n set
-
 equal_at : (x : Option Value) (n i : ℕ) → i < n → x ≡ get_or (replicate n x) i None
 equal_at x n i l = sym (get_or-replicate n i x None l)
 

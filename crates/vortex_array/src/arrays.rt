@@ -11,7 +11,6 @@ use vortex_columns::{BoolArray, ConstantArray, DecimalArray, PrimitiveArray, Var
 use vortex_types::{DType, Scalar, Value, ValueRef};
 
 /// A column of any kind.
-#[derive(Drop)]
 pub enum Array {
     /// Truth values.
     Bool(BoolArray),
@@ -23,6 +22,18 @@ pub enum Array {
     VarBinView(VarBinViewArray),
     /// Equal rows.
     Constant(ConstantArray),
+}
+
+impl Drop for Array {
+    fn drop(self) {
+        match self {
+            Array::Bool(_array) => {}
+            Array::Primitive(_array) => {}
+            Array::Decimal(_array) => {}
+            Array::VarBinView(_array) => {}
+            Array::Constant(_array) => {}
+        }
+    }
 }
 
 // A lent value or null as one of its own.
@@ -136,11 +147,11 @@ impl Array {
         ensures { IfOk result (λ a. a ≡ self.now) }
     {
         match self {
-            Array::Bool(array) => Ok(Array::Bool(array.try_clone(alloc)?)),
-            Array::Primitive(array) => Ok(Array::Primitive(array.try_clone(alloc)?)),
-            Array::Decimal(array) => Ok(Array::Decimal(array.try_clone(alloc)?)),
-            Array::VarBinView(array) => Ok(Array::VarBinView(array.try_clone(alloc)?)),
-            Array::Constant(array) => Ok(Array::Constant(array.try_clone(alloc)?)),
+            Array::Bool(array) => array.try_clone(alloc).map(Array::Bool),
+            Array::Primitive(array) => array.try_clone(alloc).map(Array::Primitive),
+            Array::Decimal(array) => array.try_clone(alloc).map(Array::Decimal),
+            Array::VarBinView(array) => array.try_clone(alloc).map(Array::VarBinView),
+            Array::Constant(array) => array.try_clone(alloc).map(Array::Constant),
         }
     }
 }

@@ -7,10 +7,18 @@ use std::marker::Model;
 use vortex_columns::LengthMismatch;
 
 /// Some rows in columns of one length. Without columns the number of rows stands by itself.
-#[derive(Drop)]
 pub struct RecordBatch {
     rows: usize,
     columns: Vec<Array>,
+}
+
+impl Drop for RecordBatch {
+    fn drop(self) {
+        let RecordBatch {
+            rows: _rows,
+            columns: _columns,
+        } = self;
+    }
 }
 
 impl Model for RecordBatch {

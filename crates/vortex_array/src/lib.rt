@@ -18,11 +18,13 @@ mod take;
 pub use arrays::Array;
 pub use batch::RecordBatch;
 pub use min_max::MinMax;
+pub use sqlite_items::Boxed;
 pub use vortex_casts::CastError;
 pub use vortex_columns::{
     BoolArray, ConstantArray, DecimalArray, DecimalBuffer, DecimalValue, LengthMismatch,
     PrimitiveArray, PrimitiveBuffer, PushError, Validity, VarBinViewArray, VarBinViewBuilder,
 };
+pub use vortex_predicates::{BetweenTo, CompareTo, LikePattern, LikeTo, Predicate};
 pub use vortex_selections::{Select, Take};
 pub use vortex_types::{
     BadPrecision, BetweenOptions, Bytes, CodeType, ColumnDesc, CompareOperator, DType,

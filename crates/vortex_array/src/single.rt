@@ -120,38 +120,14 @@ fn numbers_of_one(alloc: Global, width: PType, number: i128) -> Result<Primitive
     ensures width { IfOk result (λ b. ptype_of b ≡ width) }
 {
     match width {
-        PType::U8 => match items_of_one(alloc, number) {
-            Ok(items) => Ok(PrimitiveBuffer::U8(items)),
-            Err(e) => Err(e),
-        },
-        PType::U16 => match items_of_one(alloc, number) {
-            Ok(items) => Ok(PrimitiveBuffer::U16(items)),
-            Err(e) => Err(e),
-        },
-        PType::U32 => match items_of_one(alloc, number) {
-            Ok(items) => Ok(PrimitiveBuffer::U32(items)),
-            Err(e) => Err(e),
-        },
-        PType::U64 => match items_of_one(alloc, number) {
-            Ok(items) => Ok(PrimitiveBuffer::U64(items)),
-            Err(e) => Err(e),
-        },
-        PType::I8 => match items_of_one(alloc, number) {
-            Ok(items) => Ok(PrimitiveBuffer::I8(items)),
-            Err(e) => Err(e),
-        },
-        PType::I16 => match items_of_one(alloc, number) {
-            Ok(items) => Ok(PrimitiveBuffer::I16(items)),
-            Err(e) => Err(e),
-        },
-        PType::I32 => match items_of_one(alloc, number) {
-            Ok(items) => Ok(PrimitiveBuffer::I32(items)),
-            Err(e) => Err(e),
-        },
-        PType::I64 => match items_of_one(alloc, number) {
-            Ok(items) => Ok(PrimitiveBuffer::I64(items)),
-            Err(e) => Err(e),
-        },
+        PType::U8 => items_of_one(alloc, number).map(PrimitiveBuffer::U8),
+        PType::U16 => items_of_one(alloc, number).map(PrimitiveBuffer::U16),
+        PType::U32 => items_of_one(alloc, number).map(PrimitiveBuffer::U32),
+        PType::U64 => items_of_one(alloc, number).map(PrimitiveBuffer::U64),
+        PType::I8 => items_of_one(alloc, number).map(PrimitiveBuffer::I8),
+        PType::I16 => items_of_one(alloc, number).map(PrimitiveBuffer::I16),
+        PType::I32 => items_of_one(alloc, number).map(PrimitiveBuffer::I32),
+        PType::I64 => items_of_one(alloc, number).map(PrimitiveBuffer::I64),
     }
 }
 

@@ -27,10 +27,6 @@ get_or-bits_of n ws i h = get_or-map-range_with_len (λ j. word_bit ws j) 0 n i 
 bit_back : (b : ℕ) → b < 2 → cond (eqb b 1) 1 0 ≡ b
 bit_back b h = grind arith
 
--- a number that is 0 as an unset bit
-bit_false : (b : ℕ) → b ≡ 0 → cond false 1 0 ≡ b
-bit_false b e = sym e
-
 -- bit i of word k is bit 64 * k + i
 word_bit_at : (ws : List ℕ) (k i : ℕ) → i < 64 → word_bit ws (64 * k + i) ≡ eqb (bit_at (get_or ws k 0) i) 1
 word_bit_at ws k i h =

@@ -1,4 +1,4 @@
-use Rattle.std.proofs.Common.{ℕ, suc, cond, ◌+◌, ◌≤◌, ◌≡◌, Bool, true, false, not, List, [], ◌∷◌, eqb, length, refl, ◌∙◌, arith}
+use Rattle.std.proofs.Common.{ℕ, suc, cond, ◌+◌, ◌≤◌, ◌≡◌, Bool, true, false, List, [], ◌∷◌, eqb, length, refl, ◌∙◌, arith}
 use Rattle.std.specs.List.{count_by, list_all}
 use Rattle.std.proofs.lemmas.List.Sums.{count_by-le-length, sum_by-cons}
 
@@ -10,14 +10,6 @@ one_more c m n e = grind arith
 too_few : (c m n : ℕ) → c ≡ 0 + m → m ≤ n → eqb c (suc n) ≡ false
 too_few c m n e h = grind arith
 
--- a count that rose is not 0
-some_more : (c m : ℕ) → c ≡ 1 + m → eqb c 0 ≡ false
-some_more c m e = grind arith
-
--- a count that stood still
-none_more : (c m : ℕ) → c ≡ 0 + m → eqb c 0 ≡ eqb m 0
-none_more c m e = grind arith
-
 -- a count with one more bit in front
 count-cons : (bit : Bool) (bits : List Bool) → count_by (λ b. b) (bit ∷ bits) ≡ cond bit 1 0 + count_by (λ b. b) bits
 count-cons bit bits = sum_by-cons (λ b. cond b 1 0) bit bits
@@ -27,9 +19,3 @@ pub all_counted : (bits : List Bool) → eqb (count_by (λ bit. bit) bits) (leng
 all_counted [] = refl
 all_counted (true ∷ bits) = one_more _ (count_by (λ bit. bit) bits) (length bits) (count-cons true bits) ∙ all_counted bits
 all_counted (false ∷ bits) = too_few _ (count_by (λ bit. bit) bits) (length bits) (count-cons false bits) (count_by-le-length (λ bit. bit) bits)
-
--- no bit is set exactly where none is counted
-pub none_counted : (bits : List Bool) → eqb (count_by (λ bit. bit) bits) 0 ≡ list_all not bits
-none_counted [] = refl
-none_counted (true ∷ bits) = some_more _ (count_by (λ bit. bit) bits) (count-cons true bits)
-none_counted (false ∷ bits) = none_more _ (count_by (λ bit. bit) bits) (count-cons false bits) ∙ none_counted bits

@@ -12,10 +12,18 @@ use std::marker::Model;
 
 /// A list of bits that stays as it is, kept in words of 64 bits, least significant bit first.
 /// Contracts see the list of its bits; `bits_of` reads words as bits, and `word_of` bits as words.
-#[derive(Drop)]
 pub struct BitBuffer {
     words: Vec<u64>,
     len: usize,
+}
+
+impl Drop for BitBuffer {
+    fn drop(self) {
+        let BitBuffer {
+            words: _words,
+            len: _len,
+        } = self;
+    }
 }
 
 impl Model for BitBuffer {

@@ -5,9 +5,14 @@ use std::alloc::{AllocError, Global};
 use std::marker::Model;
 
 /// Values of a plain type that stay as they are. Contracts see the list of them.
-#[derive(Drop)]
 pub struct Buffer<T: Copy> {
     values: Vec<T>,
+}
+
+impl<T: Copy> Drop for Buffer<T> {
+    fn drop(self) {
+        let Buffer { values: _values } = self;
+    }
 }
 
 impl<T: Copy> Model for Buffer<T> {

@@ -5,9 +5,14 @@ use std::marker::Model;
 
 /// A vector that contracts see as the list of its items, so that two of the same items are equal.
 /// It is made from a `Vec` and gives it back, and neither takes memory.
-#[derive(Drop)]
 pub struct Items<T> {
     items: Vec<T>,
+}
+
+impl<T: Drop> Drop for Items<T> {
+    fn drop(self) {
+        let Items { items: _items } = self;
+    }
 }
 
 impl<T> Model for Items<T> {

@@ -10,7 +10,6 @@ use crate::words::{set_places, unset_words};
 use std::alloc::{AllocError, Global};
 
 /// Which rows are kept, one bit a row. The definition `mask_bits` reads a mask as its bits.
-#[derive(Drop)]
 pub enum Mask {
     /// So many rows, all of them kept.
     AllTrue(usize),
@@ -18,6 +17,16 @@ pub enum Mask {
     AllFalse(usize),
     /// The rows whose bit is set.
     Values(BitBuffer),
+}
+
+impl Drop for Mask {
+    fn drop(self) {
+        match self {
+            Mask::AllTrue(_part) => {}
+            Mask::AllFalse(_part) => {}
+            Mask::Values(_part) => {}
+        }
+    }
 }
 
 impl Mask {

@@ -4,7 +4,7 @@ use Rattle.std.specs.Prelude.{ℤ, pos, is_some, is_none, unwrap_or, replicate, 
 use Rattle.std.specs.List.{AllZip, list_all}
 use Rattle.std.proofs.lemmas.List.{length-map, get_or-replicate}
 use Rattle.vortex_buffer.proofs.Counts.{all_counted}
-use Rattle.std.proofs.lemmas.Bool.{and_parts, cases_lt, eq-eqb, false≢true, true≢false, not-true}
+use Rattle.std.proofs.lemmas.Bool.{and_parts, cases_lt, eq-eqb, false≢true, true≢false}
 use Rattle.vortex_types.specs.declared.types.PType.{PType}
 use Rattle.vortex_types.specs.Row.{in_width}
 use Rattle.vortex_compute.specs.Answers.{MapsLanes, FailsFirst, fails_at, all_valid, group_end}
@@ -138,13 +138,6 @@ within-more v w xs i h here j l t = by_place (cases_lt j i)
     by_place (inr b) =
         let same : j ≡ i = omega (arith, l, b) in
         rw same (passes (valid_at v i) (in_width w (get_or xs i (pos 0))) here (rw same at t))
-
--- the first place that is refused
-pub refused-here : (v : Validity) (w : PType) (xs : List ℤ) (i : ℕ) → i < length xs → ((j : ℕ) → j < i → valid_at v j ≡ true → in_width w (get_or xs j (pos 0)) ≡ true) → (valid_at v i && not (in_width w (get_or xs i (pos 0)))) ≡ true
-    → FirstOutside v w xs i
-refused-here v w xs i l h here =
-    let both = and_parts (valid_at v i) (not (in_width w (get_or xs i (pos 0)))) here in
-    record { below = l; valid = both.0; outside = not-true (in_width w (get_or xs i (pos 0))) both.1; before = h }
 
 -- bits that are all counted are all set
 all-true : (bits : List Bool) → list_all (λ bit. bit) bits ≡ true → (i : ℕ) → i < length bits → get_or bits i false ≡ true

@@ -1,5 +1,5 @@
 -- Rows whose nulls are filled.
-use Rattle.std.proofs.Common.{ℕ, zero, suc, ◌<◌, ◌≡◌, ◌+◌, Bool, true, false, cond, List, [], ◌∷◌, ◌++◌, length, get_or, take, map, refl, sym, ap, ◌∙◌, arith, Some, None}
+use Rattle.std.proofs.Common.{ℕ, ◌<◌, ◌≡◌, Bool, true, false, cond, List, [], ◌∷◌, length, get_or, map, refl, sym, ap, ◌∙◌, arith, Some, None}
 use Rattle.std.specs.Prelude.{◌&&◌, ◌||◌, IsTrue, not, replicate}
 use Rattle.std.specs.List.{AllZip}
 use Rattle.std.specs.Simd.Lanes.{zip2}
@@ -16,16 +16,6 @@ use Rattle.vortex_columns.specs.declared.validity.Validity.{Validity}
 use Rattle.vortex_columns.specs.declared.validity.Validity.TheVariants.{NonNullable, AllValid, AllInvalid, Bits}
 use Rattle.vortex_columns.proofs.RowLemmas.{length-rows-map, row-at}
 use Rattle.vortex_casts.specs.Filled.{filled, filled_row, filled_items, full_validity}
-
--- one more item
-pub filled-more : {X : Type 0} (fill : X) (items : List X) (present : List Bool) (n : ℕ) (x : X) → n < length items → n < length present → x ≡ cond (get_or present n false) (get_or items n fill) fill
-    → filled_items fill (take (n + 1) items) (take (n + 1) present) ≡ filled_items fill (take n items) (take n present) ++ x ∷ []
-filled-more fill [] present n x l m h = absurd (omega arith)
-filled-more fill (y ∷ items) [] n x l m h = absurd (omega arith)
-filled-more fill (y ∷ items) (b ∷ present) zero x l m h = ap (λ z. z ∷ []) (sym h)
-filled-more fill (y ∷ items) (b ∷ present) (suc n) x l m h =
-    let next : suc n + 1 ≡ suc (n + 1) = omega arith in
-    rw next (ap (λ ys. cond b y fill ∷ ys) (filled-more fill items present n x (omega arith) (omega arith) h))
 
 -- as many bits as rows
 pub length-valid : (v : Validity) (n : ℕ) → IsTrue (is_as_long v n) → length (valid_bits v n) ≡ n
@@ -97,13 +87,6 @@ filled-here fill v xs i x d e l h =
     ∙ ap (λ y. cond (valid_at v i) y fill) (get_or_default xs i d fill l)
     ∙ sym (filled-at fill v xs i e l)
     ∙ get_or_default (filled_items fill xs (valid_bits v (length xs))) i fill x (omega (arith, l, length-filled fill v xs e))
-
--- one more item of a column
-pub filled-next : {X : Type 0} (fill : X) (v : Validity) (xs : List X) (i : ℕ) (x d : X) → IsTrue (is_as_long v (length xs)) → i < length xs → x ≡ cond (valid_at v i) (get_or xs i d) fill
-    → filled_items fill (take (i + 1) xs) (take (i + 1) (valid_bits v (length xs))) ≡ filled_items fill (take i xs) (take i (valid_bits v (length xs))) ++ x ∷ []
-filled-next fill v xs i x d e l h =
-    filled-more fill xs (valid_bits v (length xs)) i x l (omega (arith, l, length-valid v (length xs) e))
-    (h ∙ ap (λ y. cond (valid_at v i) y fill) (get_or_default xs i d fill l) ∙ ap (λ b. cond b (get_or xs i fill) fill) (sym (valid-bit v (length xs) i l)))
 
 -- the numbers of filled items are the filled numbers
 pub map-filled : {X Y : Type 0} (f : X → Y) (fill : X) (xs : List X) (present : List Bool) → map f (filled_items fill xs present) ≡ filled_items (f fill) (map f xs) present

@@ -18,6 +18,3 @@ pub use fill::{fill_bools, fill_decimals, fill_primitive};
 pub use plain::{cast_bools, cast_decimals};
 pub use primitive::cast_primitive;
 pub use texts::{cast_texts, fill_texts};
-
-#[cfg(test)]
-mod tests;

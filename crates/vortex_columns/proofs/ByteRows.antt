@@ -41,28 +41,12 @@ pub bytes-fit : (t : DType) (lists : List (List ℕ)) (present : List Bool) (i :
     → IsTrue (fits_type t (row_of (bytes_value t (get_or lists i [])) (get_or present i d)))
 bytes-fit t lists present i d h l = bytes_fit t (get_or lists i []) (get_or present i d) h.kind (h.nulls i d (omega (arith, l, h.same_length)))
 
--- the nullable form reads bytes as the same values
-nullable_value : (t : DType) (bytes : List ℕ) → bytes_value (nullable_form t) bytes ≡ bytes_value t bytes
-nullable_value (dtype.Utf8 n) bytes = refl
-nullable_value (dtype.Binary n) bytes = refl
-nullable_value (dtype.Bool n) bytes = refl
-nullable_value (dtype.Primitive w n) bytes = refl
-nullable_value (dtype.Decimal w n) bytes = refl
-
 pub nullable-bytes : (t : DType) (lists : List (List ℕ)) (present : List Bool) → bytes_rows (nullable_form t) lists present ≡ bytes_rows t lists present
 nullable-bytes (dtype.Utf8 n) lists present = refl
 nullable-bytes (dtype.Binary n) lists present = refl
 nullable-bytes (dtype.Bool n) lists present = refl
 nullable-bytes (dtype.Primitive w n) lists present = refl
 nullable-bytes (dtype.Decimal w n) lists present = refl
-
--- and keeps what the type kept
-pub nullable-holds : (t : DType) (lists : List (List ℕ)) (present : List Bool) → HoldsBytes t lists present → HoldsBytes (nullable_form t) lists present
-nullable-holds (dtype.Utf8 n) lists present h = record { kind = refl; same_length = h.same_length; text = h.text; nulls = λ i d l. refl }
-nullable-holds (dtype.Binary n) lists present h = record { kind = refl; same_length = h.same_length; text = h.text; nulls = λ i d l. refl }
-nullable-holds (dtype.Bool n) lists present h = absurd (cc h.kind)
-nullable-holds (dtype.Primitive w n) lists present h = absurd (cc h.kind)
-nullable-holds (dtype.Decimal w n) lists present h = absurd (cc h.kind)
 
 zip2_more : {X Y Z : Type 0} (f : X → Y → Z) (xs : List X) (ys : List Y) (x : X) (y : Y) → length ys ≡ length xs → zip2 f (xs ++ x ∷ []) (ys ++ y ∷ []) ≡ zip2 f xs ys ++ f x y ∷ []
 zip2_more f [] [] x y e = refl

@@ -6,7 +6,6 @@ use Rattle.std.proofs.lemmas.List.{length-map, get_or-map}
 use Rattle.std.proofs.lemmas.Simd.{length-zip2, get_or-zip2}
 use Rattle.vortex_types.specs.Row.{fits_type, is_nullable, value_fits}
 use Rattle.vortex_types.specs.declared.types.DType.{DType}
-use Rattle.vortex_types.specs.declared.types.Nullability.{Nullability}
 use Rattle.vortex_types.specs.declared.types.Nullability.TheVariants as nulls
 use Rattle.vortex_types.specs.declared.scalar.Value.{Value}
 use Rattle.vortex_columns.specs.Validities.{row_of, rows_under, is_as_long, valid_at, valid_bits, nullability_of, nullable_validity}
@@ -43,13 +42,6 @@ row-at f (Bits bits) xs i d e h =
 row_fits : (t : DType) (x : Value) (b : Bool) → IsTrue (value_fits t x) → IsTrue (is_nullable t) → IsTrue (fits_type t (row_of x b))
 row_fits t x true e n = e
 row_fits t x false e n = n
-
--- a row under a validity fits the type that the validity makes
-pub row-fits : (t : Nullability → DType) (v : Validity) (x : Value) (i : ℕ) → IsTrue (value_fits (t (nullability_of v)) x) → IsTrue (is_nullable (t nulls.Nullable)) → IsTrue (fits_type (t (nullability_of v)) (row_of x (valid_at v i)))
-row-fits t NonNullable x i e n = e
-row-fits t AllValid x i e n = e
-row-fits t AllInvalid x i e n = n
-row-fits t (Bits bits) x i e n = row_fits (t nulls.Nullable) x (get_or bits i false) e n
 
 all_present : {X : Type 0} (xs : List X) → replicate (length xs) true ≡ map is_some (map (λ x. Some x) xs)
 all_present [] = refl
@@ -94,13 +86,6 @@ nullable-type NonNullable = refl
 nullable-type AllValid = refl
 nullable-type AllInvalid = refl
 nullable-type (Bits bits) = refl
-
--- the same rows are null
-pub nullable-rows : {X : Type 0} (v : Validity) (vs : List X) → rows_under (nullable_validity v) vs ≡ rows_under v vs
-nullable-rows NonNullable vs = refl
-nullable-rows AllValid vs = refl
-nullable-rows AllInvalid vs = refl
-nullable-rows (Bits bits) vs = refl
 
 -- equal rows are all present, or none is
 pub equal-present : {X : Type 0} (n : ℕ) (x : Option X) → map is_some (replicate n x) ≡ replicate n (is_some x)

@@ -23,9 +23,6 @@ by_row : {X Y : Type 0} (f : X → Y → Option Bool) (xs : List X) (ys : List Y
     → get_or (map answer_in (map truth_row (zip2 f xs ys))) i None ≡ f (get_or xs i x) (get_or ys i y)
 by_row f xs ys i x y h l = ap (λ given. get_or given i None) (answers-back (zip2 f xs ys)) ∙ get_or-zip2 f xs ys i x y None h l
 
-answer_of_row : (rows : List (Option Value)) (i : ℕ) → i < length rows → get_or (map answer_in rows) i None ≡ answer_in (get_or rows i None)
-answer_of_row rows i h = get_or-map answer_in rows i None None h
-
 inside_answers : (rows : List (Option Value)) (i : ℕ) → i < length rows → i < length (map answer_in rows)
 inside_answers rows i h = omega (arith, h, length-map rows answer_in)
 

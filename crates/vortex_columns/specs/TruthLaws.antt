@@ -1,6 +1,6 @@
 -- What a call of three values answers of one row: what a filter's truth is for that row.
 use Rattle.std.specs.Prelude.{◌≡◌, ◌<◌, ℕ, Bool, not, length, Option, None, option_map, slice_index_or}
-use Rattle.vortex_compute.specs.declared.compare.CompareOperator.{CompareOperator}
+use Rattle.vortex_buffer.specs.declared.compare_operator.CompareOperator.{CompareOperator}
 use Rattle.vortex_types.specs.declared.filter.BetweenOptions.{BetweenOptions}
 use Rattle.vortex_types.specs.declared.scalar.Value.{Value}
 use Rattle.vortex_types.specs.Order.{compares}

@@ -1,7 +1,7 @@
 -- Columns of truth values, and what calls of three values answer, by rows.
 use Rattle.std.specs.Prelude.{◌≡◌, ℕ, Bool, false, not, ◌&&◌, IsTrue, List, map, Option, Some, None, option_map, option_and_then}
 use Rattle.std.specs.Simd.Lanes.{zip2}
-use Rattle.vortex_compute.specs.declared.compare.CompareOperator.{CompareOperator}
+use Rattle.vortex_buffer.specs.declared.compare_operator.CompareOperator.{CompareOperator}
 use Rattle.vortex_types.specs.declared.types.Nullability.{Nullability}
 use Rattle.vortex_types.specs.declared.types.Nullability.TheVariants.{NonNullable, Nullable}
 use Rattle.vortex_types.specs.declared.types.DType.TheVariants as dtype

@@ -13,10 +13,18 @@ use vortex_buffer::{BitBuffer, Mask};
 use vortex_types::{DType, ValueRef};
 
 /// A column of truth values. The bit at a place is the row there where that row is not null.
-#[derive(Drop)]
 pub struct BoolArray {
     bits: BitBuffer,
     validity: Validity,
+}
+
+impl Drop for BoolArray {
+    fn drop(self) {
+        let BoolArray {
+            bits: _bits,
+            validity: _validity,
+        } = self;
+    }
 }
 
 impl Model for BoolArray {

@@ -11,10 +11,18 @@ use vortex_buffer::Mask;
 use vortex_types::{DType, Scalar, ValueRef};
 
 /// A column of equal rows, which is kept by one of them.
-#[derive(Drop)]
 pub struct ConstantArray {
     scalar: Scalar,
     len: usize,
+}
+
+impl Drop for ConstantArray {
+    fn drop(self) {
+        let ConstantArray {
+            scalar: _scalar,
+            len: _len,
+        } = self;
+    }
 }
 
 impl Model for ConstantArray {

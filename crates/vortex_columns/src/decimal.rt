@@ -68,7 +68,6 @@ impl DecimalValue for i128 {
 }
 
 /// Unscaled numbers of decimals, in one width.
-#[derive(Drop)]
 pub enum DecimalBuffer {
     /// Numbers of the width `i8`.
     I8(Buffer<i8>),
@@ -80,6 +79,18 @@ pub enum DecimalBuffer {
     I64(Buffer<i64>),
     /// Numbers of the width `i128`.
     I128(Buffer<i128>),
+}
+
+impl Drop for DecimalBuffer {
+    fn drop(self) {
+        match self {
+            DecimalBuffer::I8(_part) => {}
+            DecimalBuffer::I16(_part) => {}
+            DecimalBuffer::I32(_part) => {}
+            DecimalBuffer::I64(_part) => {}
+            DecimalBuffer::I128(_part) => {}
+        }
+    }
 }
 
 // How many items there are.
@@ -139,11 +150,11 @@ impl DecimalBuffer {
         ensures { IfOk result (λ b. b ≡ self.now) }
     {
         match self {
-            DecimalBuffer::I8(values) => Ok(DecimalBuffer::I8(values.try_clone(alloc)?)),
-            DecimalBuffer::I16(values) => Ok(DecimalBuffer::I16(values.try_clone(alloc)?)),
-            DecimalBuffer::I32(values) => Ok(DecimalBuffer::I32(values.try_clone(alloc)?)),
-            DecimalBuffer::I64(values) => Ok(DecimalBuffer::I64(values.try_clone(alloc)?)),
-            DecimalBuffer::I128(values) => Ok(DecimalBuffer::I128(values.try_clone(alloc)?)),
+            DecimalBuffer::I8(values) => values.try_clone(alloc).map(DecimalBuffer::I8),
+            DecimalBuffer::I16(values) => values.try_clone(alloc).map(DecimalBuffer::I16),
+            DecimalBuffer::I32(values) => values.try_clone(alloc).map(DecimalBuffer::I32),
+            DecimalBuffer::I64(values) => values.try_clone(alloc).map(DecimalBuffer::I64),
+            DecimalBuffer::I128(values) => values.try_clone(alloc).map(DecimalBuffer::I128),
         }
     }
 }
@@ -158,11 +169,20 @@ fn lend_number(values: &DecimalBuffer, i: usize) -> ValueRef<'_>
 }
 
 /// A column of decimals. The unscaled number at a place is the row there where that row is not null.
-#[derive(Drop)]
 pub struct DecimalArray {
     values: DecimalBuffer,
     digits: DecimalDType,
     validity: Validity,
+}
+
+impl Drop for DecimalArray {
+    fn drop(self) {
+        let DecimalArray {
+            values: _values,
+            digits: _digits,
+            validity: _validity,
+        } = self;
+    }
 }
 
 impl Model for DecimalArray {

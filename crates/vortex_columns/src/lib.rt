@@ -22,6 +22,3 @@ pub use laws::{
 pub use primitive::{PrimitiveArray, PrimitiveBuffer};
 pub use validity::{LengthMismatch, Validity};
 pub use var_bin::{ByteParts, PushError, VarBinViewArray, VarBinViewBuilder, validity_of_rows};
-
-#[cfg(test)]
-mod tests;

@@ -14,7 +14,6 @@ use vortex_buffer::{Buffer, Mask};
 use vortex_types::{DType, NativeValue, PType, ValueRef};
 
 /// Whole numbers of one width.
-#[derive(Drop)]
 pub enum PrimitiveBuffer {
     /// Numbers of the width `u8`.
     U8(Buffer<u8>),
@@ -32,6 +31,21 @@ pub enum PrimitiveBuffer {
     I32(Buffer<i32>),
     /// Numbers of the width `i64`.
     I64(Buffer<i64>),
+}
+
+impl Drop for PrimitiveBuffer {
+    fn drop(self) {
+        match self {
+            PrimitiveBuffer::U8(_part) => {}
+            PrimitiveBuffer::U16(_part) => {}
+            PrimitiveBuffer::U32(_part) => {}
+            PrimitiveBuffer::U64(_part) => {}
+            PrimitiveBuffer::I8(_part) => {}
+            PrimitiveBuffer::I16(_part) => {}
+            PrimitiveBuffer::I32(_part) => {}
+            PrimitiveBuffer::I64(_part) => {}
+        }
+    }
 }
 
 // How many items there are.
@@ -115,14 +129,14 @@ impl PrimitiveBuffer {
         ensures { IfOk result (λ b. b ≡ self.now) }
     {
         match self {
-            PrimitiveBuffer::U8(values) => Ok(PrimitiveBuffer::U8(values.try_clone(alloc)?)),
-            PrimitiveBuffer::U16(values) => Ok(PrimitiveBuffer::U16(values.try_clone(alloc)?)),
-            PrimitiveBuffer::U32(values) => Ok(PrimitiveBuffer::U32(values.try_clone(alloc)?)),
-            PrimitiveBuffer::U64(values) => Ok(PrimitiveBuffer::U64(values.try_clone(alloc)?)),
-            PrimitiveBuffer::I8(values) => Ok(PrimitiveBuffer::I8(values.try_clone(alloc)?)),
-            PrimitiveBuffer::I16(values) => Ok(PrimitiveBuffer::I16(values.try_clone(alloc)?)),
-            PrimitiveBuffer::I32(values) => Ok(PrimitiveBuffer::I32(values.try_clone(alloc)?)),
-            PrimitiveBuffer::I64(values) => Ok(PrimitiveBuffer::I64(values.try_clone(alloc)?)),
+            PrimitiveBuffer::U8(values) => values.try_clone(alloc).map(PrimitiveBuffer::U8),
+            PrimitiveBuffer::U16(values) => values.try_clone(alloc).map(PrimitiveBuffer::U16),
+            PrimitiveBuffer::U32(values) => values.try_clone(alloc).map(PrimitiveBuffer::U32),
+            PrimitiveBuffer::U64(values) => values.try_clone(alloc).map(PrimitiveBuffer::U64),
+            PrimitiveBuffer::I8(values) => values.try_clone(alloc).map(PrimitiveBuffer::I8),
+            PrimitiveBuffer::I16(values) => values.try_clone(alloc).map(PrimitiveBuffer::I16),
+            PrimitiveBuffer::I32(values) => values.try_clone(alloc).map(PrimitiveBuffer::I32),
+            PrimitiveBuffer::I64(values) => values.try_clone(alloc).map(PrimitiveBuffer::I64),
         }
     }
 }
@@ -138,10 +152,18 @@ fn lend_number(values: &PrimitiveBuffer, i: usize) -> ValueRef<'_>
 }
 
 /// A column of whole numbers. The number at a place is the row there where that row is not null.
-#[derive(Drop)]
 pub struct PrimitiveArray {
     values: PrimitiveBuffer,
     validity: Validity,
+}
+
+impl Drop for PrimitiveArray {
+    fn drop(self) {
+        let PrimitiveArray {
+            values: _values,
+            validity: _validity,
+        } = self;
+    }
 }
 
 impl Model for PrimitiveArray {

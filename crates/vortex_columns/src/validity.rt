@@ -15,7 +15,6 @@ use vortex_types::{Nullability, ValueRef};
 pub struct LengthMismatch;
 
 /// Which rows are not null. All but the first make a nullable type.
-#[derive(Drop)]
 pub enum Validity {
     /// Every row is a value, and the type has no nulls.
     NonNullable,
@@ -25,6 +24,17 @@ pub enum Validity {
     AllInvalid,
     /// The rows whose bit is set are values.
     Bits(BitBuffer),
+}
+
+impl Drop for Validity {
+    fn drop(self) {
+        match self {
+            Validity::NonNullable => {}
+            Validity::AllValid => {}
+            Validity::AllInvalid => {}
+            Validity::Bits(_part) => {}
+        }
+    }
 }
 
 impl Validity {

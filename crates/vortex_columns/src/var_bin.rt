@@ -36,11 +36,20 @@ pub enum PushError {
 }
 
 /// A column of texts or of bytes. Contracts see its type and its rows.
-#[derive(Drop)]
 pub struct VarBinViewArray {
     dtype: DType,
     lists: ByteLists,
     present: Vec<bool>,
+}
+
+impl Drop for VarBinViewArray {
+    fn drop(self) {
+        let VarBinViewArray {
+            dtype: _dtype,
+            lists: _lists,
+            present: _present,
+        } = self;
+    }
 }
 
 impl Model for VarBinViewArray {
@@ -222,11 +231,20 @@ impl VarBinViewArray {
 }
 
 /// A column of texts or of bytes that is made row by row. Contracts see the column so far.
-#[derive(Drop)]
 pub struct VarBinViewBuilder {
     dtype: DType,
     lists: ByteLists,
     present: Vec<bool>,
+}
+
+impl Drop for VarBinViewBuilder {
+    fn drop(self) {
+        let VarBinViewBuilder {
+            dtype: _dtype,
+            lists: _lists,
+            present: _present,
+        } = self;
+    }
 }
 
 impl Model for VarBinViewBuilder {

@@ -1,5 +1,5 @@
 -- Columns of one answer.
-use Rattle.std.proofs.Common.{ℕ, zero, suc, ◌≡◌, Bool, true, false, List, [], ◌∷◌, length, map, refl, sym, ap, ◌∙◌, Option, Some, None}
+use Rattle.std.proofs.Common.{ℕ, zero, suc, ◌≡◌, Bool, true, false, List, ◌∷◌, length, map, refl, sym, ap, ◌∙◌, Some, None}
 use Rattle.std.specs.Prelude.{IsTrue, replicate}
 use Rattle.std.proofs.lemmas.Bool.{false≢true}
 use Rattle.std.proofs.lemmas.List.{length-replicate}
@@ -10,11 +10,11 @@ use Rattle.vortex_types.specs.declared.types.DType.TheVariants as dtype
 use Rattle.vortex_types.specs.declared.scalar.Value.{Value}
 use Rattle.vortex_types.specs.declared.scalar.Value.TheVariants as value
 use Rattle.vortex_types.specs.Row.{value_fits}
-use Rattle.vortex_columns.specs.ByteRows.{bytes_value, is_bytes_type}
+use Rattle.vortex_columns.specs.ByteRows.{is_bytes_type}
 use Rattle.vortex_columns.specs.Kinds.{bool_column}
 use Rattle.vortex_columns.specs.Parts.{BoolParts}
 use Rattle.vortex_columns.specs.Truths.{truth_row, truths}
-use Rattle.vortex_columns.specs.Validities.{is_as_long, nullability_of, valid_bits}
+use Rattle.vortex_columns.specs.Validities.{nullability_of, valid_bits}
 use Rattle.vortex_columns.specs.declared.validity.Validity.{Validity}
 use Rattle.vortex_columns.specs.declared.validity.Validity.TheVariants.{AllInvalid}
 use Rattle.vortex_columns.proofs.TruthColumns.{truth-column}
@@ -38,22 +38,6 @@ equal-column n b k bits v made is e full parts =
 pub null-column : (n : ℕ) (bits : List Bool) (made : BoolParts) → bits ≡ replicate n false → made ≡ record { bits = bits; validity = AllInvalid } → bool_column made ≡ truths nulls.Nullable (replicate n None)
 null-column n bits made is parts =
     rw parts (truth-column bits AllInvalid n nulls.Nullable (replicate n None) (replicate n false) (ap length is ∙ length-replicate n false) refl refl (ap (λ bs. truth_rows bs (replicate n false)) is ∙ all_null n))
-
--- a text that fits a type of texts or bytes is its value there
-pub text-value : (t : DType) (text : List ℕ) → IsTrue (value_fits t (value.Utf8 text)) → bytes_value t text ≡ value.Utf8 text
-text-value (dtype.Utf8 n) text e = refl
-text-value (dtype.Binary n) text e = absurd (cc e)
-text-value (dtype.Bool n) text e = absurd (cc e)
-text-value (dtype.Primitive p n) text e = absurd (cc e)
-text-value (dtype.Decimal d n) text e = absurd (cc e)
-
--- bytes that fit a type of texts or bytes are their value there
-pub binary-value : (t : DType) (bytes : List ℕ) → IsTrue (value_fits t (value.Binary bytes)) → bytes_value t bytes ≡ value.Binary bytes
-binary-value (dtype.Binary n) bytes e = refl
-binary-value (dtype.Utf8 n) bytes e = absurd (cc e)
-binary-value (dtype.Bool n) bytes e = absurd (cc e)
-binary-value (dtype.Primitive p n) bytes e = absurd (cc e)
-binary-value (dtype.Decimal d n) bytes e = absurd (cc e)
 
 -- the value is a text or bytes
 abbrev pub bytes_kind : Value → Bool

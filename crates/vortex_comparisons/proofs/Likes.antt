@@ -1,24 +1,23 @@
 -- Texts matched with patterns, row by row.
-use Rattle.std.proofs.Common.{ℕ, zero, suc, ◌≡◌, ◌<◌, Bool, true, false, ◌&&◌, List, [], ◌∷◌, length, get_or, map, refl, sym, ap, ◌∙◌, arith, Option, Some, None}
+use Rattle.std.proofs.Common.{ℕ, ◌≡◌, Bool, true, false, ◌&&◌, List, [], ◌∷◌, length, get_or, map, refl, sym, ap, ◌∙◌, arith}
 use Rattle.std.specs.Prelude.{IsTrue, IsUtf8, All, replicate}
 use Rattle.std.specs.List.{AllZip}
 use Rattle.std.specs.Simd.Lanes.{zip2}
 use Rattle.std.specs.Str.{is_utf8}
 use Rattle.std.proofs.lemmas.Str.{is_utf8-from_IsUtf8}
-use Rattle.std.proofs.lemmas.List.{length-map, length-replicate}
+use Rattle.std.proofs.lemmas.List.{length-replicate}
 use Rattle.std.proofs.lemmas.Simd.{length-zip2, zip2_splat}
 use Rattle.vortex_types.specs.Matches.{matches}
 use Rattle.vortex_types.specs.Row.{Column, nullability}
 use Rattle.vortex_types.specs.Truth.{both, is_like}
 use Rattle.vortex_types.specs.declared.types.DType.{DType}
 use Rattle.vortex_types.specs.declared.types.DType.TheVariants as dtype
-use Rattle.vortex_types.specs.declared.types.Nullability.{Nullability}
 use Rattle.vortex_types.specs.declared.scalar.Value.{Value}
 use Rattle.vortex_types.specs.declared.scalar.Value.TheVariants as value
-use Rattle.vortex_columns.specs.ByteRows.{HoldsBytes, bytes_rows, bytes_value, is_text_type}
+use Rattle.vortex_columns.specs.ByteRows.{bytes_value, is_text_type}
 use Rattle.vortex_columns.specs.Kinds.{bool_column}
 use Rattle.vortex_columns.specs.Parts.{BoolParts}
-use Rattle.vortex_columns.specs.Truths.{BothValid, either, either_column, liked, truth_row, truths}
+use Rattle.vortex_columns.specs.Truths.{BothValid, either, either_column, liked, truth_row}
 use Rattle.vortex_columns.specs.Validities.{is_as_long, nullability_of, row_of, valid_bits}
 use Rattle.vortex_columns.specs.declared.validity.Validity.{Validity}
 use Rattle.vortex_columns.proofs.TruthColumns.{truth-column}

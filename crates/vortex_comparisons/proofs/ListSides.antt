@@ -1,17 +1,16 @@
 -- Columns of texts and of bytes as lists with their values.
-use Rattle.std.proofs.Common.{ℕ, ◌≡◌, Bool, true, List, length, map, refl, sym, ap, ◌∙◌, Option, Some}
+use Rattle.std.proofs.Common.{ℕ, ◌≡◌, Bool, true, List, length, map, refl, sym, ap, ◌∙◌, Some}
 use Rattle.std.specs.Prelude.{IsTrue, replicate}
 use Rattle.std.specs.Cmp.Lexicographic.{slice_cmp}
 use Rattle.std.specs.Ordering.{nat_cmp}
 use Rattle.std.specs.Simd.Lanes.{zip2}
 use Rattle.std.proofs.lemmas.List.{length-replicate}
-use Rattle.vortex_compute.specs.declared.compare.CompareOperator.{CompareOperator}
+use Rattle.vortex_buffer.specs.declared.compare_operator.CompareOperator.{CompareOperator}
 use Rattle.vortex_types.specs.Order.{accepts, value_cmp}
 use Rattle.vortex_types.specs.Row.{Column, nullability}
 use Rattle.vortex_types.specs.Typed.{same_apart_from_nullability}
 use Rattle.vortex_types.specs.declared.types.DType.{DType}
 use Rattle.vortex_types.specs.declared.types.DType.TheVariants as dtype
-use Rattle.vortex_types.specs.declared.types.Nullability.{Nullability}
 use Rattle.vortex_columns.specs.ByteRows.{HoldsBytes, bytes_rows, bytes_value, is_bytes_type}
 use Rattle.vortex_columns.specs.Kinds.{bool_column}
 use Rattle.vortex_columns.specs.Parts.{BoolParts}

@@ -1,7 +1,6 @@
 -- Items of two lists, pair by pair.
 use Rattle.std.proofs.Common.{ℕ, ◌≡◌, ◌<◌, List, [], ◌∷◌, length, get_or, map, refl, sym, ap, ◌∙◌, arith}
 use Rattle.std.specs.Simd.Lanes.{zip2}
-use Rattle.std.proofs.lemmas.List.{length-map, get_or-map}
 use Rattle.std.proofs.lemmas.Simd.{length-zip2, get_or-zip2}
 
 -- a place among the pairs is one among the items
@@ -13,14 +12,6 @@ pub pair-at : {X Y Z : Type 0} (f : X → Y → Z) (xs : List X) (ys : List Y) (
 pair-at f xs ys i x y z r e h is =
     let inside : i < length xs = pair-inside f xs ys i e h in
     is ∙ sym (get_or-zip2 f xs ys i x y z inside (omega (arith, inside, e)))
-
--- a place among mapped items is one among the items
-pub item-inside : {X Z : Type 0} (f : X → Z) (xs : List X) (i : ℕ) → i < length (map f xs) → i < length xs
-item-inside f xs i h = omega (arith, h, length-map xs f)
-
--- the mapped item at a place
-pub item-at : {X Z : Type 0} (f : X → Z) (xs : List X) (i : ℕ) (x : X) (z r : Z) → i < length (map f xs) → r ≡ f (get_or xs i x) → r ≡ get_or (map f xs) i z
-item-at f xs i x z r h is = is ∙ sym (get_or-map f xs i x z (item-inside f xs i h))
 
 -- pairs of mapped items
 pub mapped-pairs : {X Y P Q Z : Type 0} (h : P → Q → Z) (f : X → P) (g : Y → Q) (xs : List X) (ys : List Y) → zip2 (λ x y. h (f x) (g y)) xs ys ≡ zip2 h (map f xs) (map g ys)

@@ -1,11 +1,11 @@
 -- Columns as items with their values, and the rows of two of them compared.
-use Rattle.std.proofs.Common.{ℕ, zero, suc, ◌≡◌, Bool, true, false, ◌&&◌, List, [], ◌∷◌, length, map, refl, sym, ap, ◌∙◌, arith, Option, Some, None}
+use Rattle.std.proofs.Common.{ℕ, zero, suc, ◌≡◌, Bool, true, false, ◌&&◌, List, [], ◌∷◌, length, map, refl, sym, ap, ◌∙◌, arith, Some}
 use Rattle.std.specs.Prelude.{IsTrue, replicate}
 use Rattle.std.specs.Simd.Lanes.{zip2}
 use Rattle.std.specs.declared.cmp.Ordering.{Ordering}
 use Rattle.std.proofs.lemmas.List.{length-map, length-replicate}
 use Rattle.std.proofs.lemmas.Simd.{length-zip2, zip2_splat}
-use Rattle.vortex_compute.specs.declared.compare.CompareOperator.{CompareOperator}
+use Rattle.vortex_buffer.specs.declared.compare_operator.CompareOperator.{CompareOperator}
 use Rattle.vortex_types.specs.Order.{accepts, compares, value_cmp}
 use Rattle.vortex_types.specs.Row.{Column, nullability}
 use Rattle.vortex_types.specs.Truth.{both}

@@ -1,22 +1,22 @@
 -- Comparisons turned round.
-use Rattle.std.proofs.Common.{◌≡◌, Bool, List, [], ◌∷◌, map, refl, sym, ap, ◌∙◌, Option, Some, None}
+use Rattle.std.proofs.Common.{◌≡◌, List, [], ◌∷◌, refl, ap, ◌∙◌, Option, Some, None}
 use Rattle.std.specs.Prelude.{option_map}
 use Rattle.std.specs.Simd.Lanes.{zip2}
-use Rattle.std.specs.Ordering.{ordering_reverse, bool_cmp, int_cmp, nat_cmp}
+use Rattle.std.specs.Ordering.{ordering_reverse}
 use Rattle.std.specs.declared.cmp.Ordering.{Ordering}
 use Rattle.std.specs.declared.cmp.Ordering.TheVariants.{Less, Equal, Greater}
 use Rattle.std.specs.Cmp.{bool_cmp_total}
 use Rattle.std.proofs.lemmas.Cmp.{int_cmp_total, nat_list_cmp_total}
-use Rattle.vortex_compute.specs.declared.compare.CompareOperator.{CompareOperator}
-use Rattle.vortex_compute.specs.declared.compare.CompareOperator.TheVariants.{Eq, NotEq, Gt, Gte, Lt, Lte}
+use Rattle.vortex_buffer.specs.declared.compare_operator.CompareOperator.{CompareOperator}
+use Rattle.vortex_buffer.specs.declared.compare_operator.CompareOperator.TheVariants.{Eq, NotEq, Gt, Gte, Lt, Lte}
 use Rattle.vortex_types.specs.Order.{accepts, compares, value_cmp}
-use Rattle.vortex_types.specs.Row.{Column, nullability}
+use Rattle.vortex_types.specs.Row.{nullability}
 use Rattle.vortex_types.specs.Truth.{both}
 use Rattle.vortex_types.specs.declared.types.Nullability.{Nullability}
 use Rattle.vortex_types.specs.declared.types.Nullability.TheVariants as nulls
 use Rattle.vortex_types.specs.declared.scalar.Value.{Value}
 use Rattle.vortex_types.specs.declared.scalar.Value.TheVariants as value
-use Rattle.vortex_columns.specs.Truths.{compared, either, either_column, truths}
+use Rattle.vortex_columns.specs.Truths.{either, either_column, truths}
 use Rattle.vortex_comparisons.specs.Turned.{TurnedRound, turned}
 
 accepts_turned : (operator : CompareOperator) (o : Ordering) → accepts (turned operator) (ordering_reverse o) ≡ accepts operator o

@@ -1,7 +1,7 @@
 -- An operator turned round.
-use Rattle.std.specs.Prelude.{◌≡◌, length}
-use Rattle.vortex_compute.specs.declared.compare.CompareOperator.{CompareOperator}
-use Rattle.vortex_compute.specs.declared.compare.CompareOperator.TheVariants.{Eq, NotEq, Gt, Gte, Lt, Lte}
+use Rattle.std.specs.Prelude.{◌≡◌}
+use Rattle.vortex_buffer.specs.declared.compare_operator.CompareOperator.{CompareOperator}
+use Rattle.vortex_buffer.specs.declared.compare_operator.CompareOperator.TheVariants.{Eq, NotEq, Gt, Gte, Lt, Lte}
 use Rattle.vortex_types.specs.Row.{Column}
 use Rattle.vortex_columns.specs.Truths.{compared}
 

@@ -23,6 +23,3 @@ pub use values::{
     compare_decimal_value, compare_list_value, compare_number_value, compare_truth_value,
     equal_answers, null_answers,
 };
-
-#[cfg(test)]
-mod tests;

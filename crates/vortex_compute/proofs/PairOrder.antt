@@ -6,8 +6,8 @@ use Rattle.std.proofs.lemmas.Int.{ints}
 use Rattle.std.proofs.lemmas.List.{get_or_default}
 use Rattle.std.proofs.lemmas.Slice.Zip.{length-zip, get_or-zip}
 use Rattle.vortex_compute.specs.Compare.{compares, pair_number}
-use Rattle.vortex_compute.specs.declared.compare.CompareOperator.{CompareOperator}
-use Rattle.vortex_compute.specs.declared.compare.CompareOperator.TheVariants.{Eq, NotEq, Gt, Gte, Lt, Lte}
+use Rattle.vortex_buffer.specs.declared.compare_operator.CompareOperator.{CompareOperator}
+use Rattle.vortex_buffer.specs.declared.compare_operator.CompareOperator.TheVariants.{Eq, NotEq, Gt, Gte, Lt, Lte}
 
 -- the comparison of two numbers word by word
 abbrev pub by_words : CompareOperator → ℤ → ℕ → ℤ → ℕ → Bool

@@ -1,7 +1,7 @@
 use Rattle.std.specs.Prelude.{ℕ, ◌^◌, ℤ, pos, ◌+ℤ◌, ◌*ℤ◌, Bool, not, int_lt, int_le}
 use Rattle.std.specs.Ordering.{int_eq}
-use Rattle.vortex_compute.specs.declared.compare.CompareOperator.{CompareOperator}
-use Rattle.vortex_compute.specs.declared.compare.CompareOperator.TheVariants.{Eq, NotEq, Gt, Gte, Lt, Lte}
+use Rattle.vortex_buffer.specs.declared.compare_operator.CompareOperator.{CompareOperator}
+use Rattle.vortex_buffer.specs.declared.compare_operator.CompareOperator.TheVariants.{Eq, NotEq, Gt, Gte, Lt, Lte}
 
 -- whether an operator holds between two numbers
 abbrev pub compares : CompareOperator → ℤ → ℤ → Bool

@@ -6,6 +6,7 @@ ghost use Rattle.vortex_compute.specs.Groups.{TriedInPlace};
 ghost use Rattle.vortex_compute.specs.InOrder.{MapsInOrder, TriesInOrder, FailsInOrder};
 
 use crate::lane_default::LaneDefault;
+use crate::refusing::failed_lane;
 use crate::sink::IndexedSink;
 use vortex_buffer::BitBuffer;
 
@@ -107,7 +108,7 @@ where
     for k in 0..whole {
         let failed = try_group_in_place(values, &mut f, 64 * k, 64) & mask.word(k);
         if failed != 0 {
-            return Err(64 * k + failed.trailing_zeros() as usize);
+            return Err(failed_lane(k, failed));
         }
     }
     let rest = len % 64;
@@ -116,7 +117,7 @@ where
     }
     let failed = try_group_in_place(values, &mut f, 64 * whole, rest) & mask.word(whole);
     if failed != 0 {
-        return Err(64 * whole + failed.trailing_zeros() as usize);
+        return Err(failed_lane(whole, failed));
     }
     Ok(())
 }

@@ -34,7 +34,7 @@ mod same_bits;
 mod sink;
 mod source;
 
-pub use compare::{CompareOperator, compare_i64_bits, compare_u64_bits, compare_words_bits};
+pub use compare::{compare_i64_bits, compare_u64_bits, compare_words_bits};
 pub use fail_word::FailWord;
 pub use in_place::{map_into_in_place, try_map_in_place, try_map_masked_in_place};
 pub use lane_default::LaneDefault;
@@ -46,6 +46,4 @@ pub use refusing::{try_map_into, try_map_masked_into};
 pub use same_bits::SameBits;
 pub use sink::{IndexedSink, LanesMut, ReinterpretSink};
 pub use source::{IndexedSource, LaneZip, Lanes, Repeat};
-
-#[cfg(test)]
-mod tests;
+pub use vortex_buffer::CompareOperator;

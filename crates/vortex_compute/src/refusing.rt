@@ -1,6 +1,7 @@
 // Kernels that refuse: the first lane that fails is found at the end of its group of 64 lanes, so that the loop over
 // a group has no branch per lane.
-ghost use Rattle.std.specs.Prelude.{◌≡◌, ◌<◌, ◌≤◌, ◌+◌, ◌^◌, All, Some, IfErr, OnOk, length, take, drop};
+ghost use Rattle.std.specs.Prelude.{◌≡◌, ◌≢◌, ◌<◌, ◌≤◌, ◌+◌, ◌*◌, ◌^◌, All, Some, IfErr, OnOk, length, take, drop};
+ghost use Rattle.std.specs.Int.{trailing_zeros, w64};
 ghost use Rattle.std.specs.List.{AllZip};
 ghost use Rattle.vortex_compute.specs.Answers.{MapsLanes, FailsFirst, all_valid};
 ghost use Rattle.vortex_compute.specs.Groups.{TriedGroup};
@@ -32,6 +33,16 @@ fn try_group<S: IndexedSource, R: LaneDefault, F: Fn(S::Item) -> Option<R>>(
         out[base + bit] = answer.unwrap_or(R::lane_default());
     }
     failed
+}
+
+// The first lane of a group of 64 that a word of failures names.
+#[inline(always)]
+pub(crate) fn failed_lane(group: usize, failed: u64) -> usize
+    requires within { 64 * group < 2 ^ 64 }
+    requires some { failed ≢ 0 }
+    ensures { result ≡ 64 * group + trailing_zeros w64 failed }
+{
+    64 * group + failed.trailing_zeros() as usize
 }
 
 /// `out[i]` becomes the value for lane `i`. Refused exactly where an answer is none, with the first lane that failed.
@@ -89,7 +100,7 @@ pub fn try_map_masked_into<S: IndexedSource, R: LaneDefault, F: Fn(S::Item) -> O
     for k in 0..whole {
         let failed = try_group(values, out, &f, 64 * k, 64) & mask.word(k);
         if failed != 0 {
-            return Err(64 * k + failed.trailing_zeros() as usize);
+            return Err(failed_lane(k, failed));
         }
     }
     let rest = len % 64;
@@ -98,7 +109,7 @@ pub fn try_map_masked_into<S: IndexedSource, R: LaneDefault, F: Fn(S::Item) -> O
     }
     let failed = try_group(values, out, &f, 64 * whole, rest) & mask.word(whole);
     if failed != 0 {
-        return Err(64 * whole + failed.trailing_zeros() as usize);
+        return Err(failed_lane(whole, failed));
     }
     Ok(())
 }

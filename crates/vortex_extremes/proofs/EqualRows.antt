@@ -1,20 +1,11 @@
 -- The order of equal rows.
-use Rattle.std.proofs.Common.{ℕ, zero, suc, inl, inr, ◌<◌, ◌≤◌, ◌+◌, arith, Option, None}
+use Rattle.std.proofs.Common.{ℕ, inl, inr, ◌<◌, ◌≤◌, ◌+◌, arith, Option, None}
 use Rattle.std.specs.Prelude.{IsTrue, replicate, ◌⊎◌}
 use Rattle.std.proofs.lemmas.Bool.{cases_lt, false≢true}
 use Rattle.std.proofs.lemmas.List.{get_or-replicate, length-replicate}
 use Rattle.vortex_types.specs.declared.scalar.Value.{Value}
-use Rattle.vortex_extremes.specs.InOrder.{IsConstant, IsSorted, IsStrictlySorted, below}
+use Rattle.vortex_extremes.specs.InOrder.{IsSorted, IsStrictlySorted, below}
 use Rattle.vortex_extremes.proofs.OrderLaws.{at_most-itself, row-itself}
-
--- some equal rows are constant, and no rows are not
-pub equal-constant : (n : ℕ) (row : Option Value) → 0 < n → IsConstant (replicate n row)
-equal-constant zero row l = absurd (omega (arith, l))
-equal-constant (suc n) row l = λ k d m. get_or-replicate n k row d (omega (arith, m, length-replicate n row))
-
-pub constant-equal : (n : ℕ) (row : Option Value) → IsConstant (replicate n row) → 0 < n
-constant-equal zero row h = absurd h
-constant-equal (suc n) row h = omega arith
 
 -- equal rows are sorted
 pub equal-sorted : (n : ℕ) (row : Option Value) → IsSorted (replicate n row)

@@ -4,15 +4,13 @@ use Rattle.std.specs.Prelude.{IsTrue, is_some, Contains, replicate}
 use Rattle.std.proofs.lemmas.Bool.{false≢true}
 use Rattle.std.proofs.lemmas.List.{get_or_default, get_or-replicate, length-replicate}
 use Rattle.vortex_types.specs.Order.{compares}
-use Rattle.vortex_types.specs.Row.{Column, TypedRow, value_fits}
+use Rattle.vortex_types.specs.Row.{Column, TypedRow}
 use Rattle.vortex_types.specs.Widths.{full_form}
-use Rattle.vortex_types.specs.declared.types.DType.{DType}
-use Rattle.vortex_types.specs.declared.types.DType.TheVariants as dtype
 use Rattle.vortex_types.specs.declared.scalar.Value.{Value}
 use Rattle.vortex_types.specs.declared.scalar.Value.TheVariants.{Bool as Truth, Int, Decimal, Utf8, Binary}
-use Rattle.vortex_compute.specs.declared.compare.CompareOperator.TheVariants.{Lte}
+use Rattle.vortex_buffer.specs.declared.compare_operator.CompareOperator.TheVariants.{Lte}
 use Rattle.vortex_extremes.specs.InOrder.{at_most}
-use Rattle.vortex_extremes.specs.Extremes.{LeastOf, GreatestOf, NoneOf, ExtremesOf, AreExtremes, IsLeastValue, IsGreatestValue, HasNoValue}
+use Rattle.vortex_extremes.specs.Extremes.{LeastOf, GreatestOf, NoneOf, ExtremesOf, AreExtremes, IsLeastValue, IsGreatestValue}
 use Rattle.vortex_extremes.specs.Asked.{FirstValue}
 use Rattle.vortex_extremes.proofs.OrderLaws.{at_most-itself}
 
@@ -44,34 +42,6 @@ compares-at_most (Binary a) (Decimal b) h = h
 compares-at_most (Binary a) (Utf8 b) h = h
 compares-at_most (Binary a) (Binary b) h = h
 
--- a value fits a type where it fits the type without nulls
-pub full-fits : (t : DType) (v : Value) → value_fits (full_form t) v ≡ value_fits t v
-full-fits (dtype.Bool n) (Truth a) = refl
-full-fits (dtype.Bool n) (Int a) = refl
-full-fits (dtype.Bool n) (Decimal a) = refl
-full-fits (dtype.Bool n) (Utf8 a) = refl
-full-fits (dtype.Bool n) (Binary a) = refl
-full-fits (dtype.Primitive w n) (Truth a) = refl
-full-fits (dtype.Primitive w n) (Int a) = refl
-full-fits (dtype.Primitive w n) (Decimal a) = refl
-full-fits (dtype.Primitive w n) (Utf8 a) = refl
-full-fits (dtype.Primitive w n) (Binary a) = refl
-full-fits (dtype.Decimal w n) (Truth a) = refl
-full-fits (dtype.Decimal w n) (Int a) = refl
-full-fits (dtype.Decimal w n) (Decimal a) = refl
-full-fits (dtype.Decimal w n) (Utf8 a) = refl
-full-fits (dtype.Decimal w n) (Binary a) = refl
-full-fits (dtype.Utf8 n) (Truth a) = refl
-full-fits (dtype.Utf8 n) (Int a) = refl
-full-fits (dtype.Utf8 n) (Decimal a) = refl
-full-fits (dtype.Utf8 n) (Utf8 a) = refl
-full-fits (dtype.Utf8 n) (Binary a) = refl
-full-fits (dtype.Binary n) (Truth a) = refl
-full-fits (dtype.Binary n) (Int a) = refl
-full-fits (dtype.Binary n) (Decimal a) = refl
-full-fits (dtype.Binary n) (Utf8 a) = refl
-full-fits (dtype.Binary n) (Binary a) = refl
-
 held : (rows : List (Option Value)) (i : ℕ) (v : Value) → i < length rows → get_or rows i None ≡ Some v → Contains rows (Some v)
 held rows i v l e = (i, l, get_or_default rows i (Some v) None l ∙ e)
 
@@ -94,10 +64,6 @@ greatest-value rows i v h e =
           let here : get_or rows k.0 None ≡ Some w = get_or_default rows k.0 None (Some w) k.1 ∙ k.2 in
           compares-at_most w v (rw (e, here) at (h.bound k.0 k.1));
     }
-
--- no place is no value
-pub no-value : (rows : List (Option Value)) → NoneOf rows (length rows) → HasNoValue rows
-no-value rows h = λ i d l. get_or_default rows i d None l ∙ h.null i l
 
 -- the first of equal rows is extreme where it is a value
 pub equal-least : (n : ℕ) (row : Option Value) → 0 < n → is_some row ≡ true → LeastOf (replicate n row) (length (replicate n row)) 0

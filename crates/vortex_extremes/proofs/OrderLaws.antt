@@ -11,9 +11,6 @@ use Rattle.std.proofs.lemmas.Cmp.{upto, tied_itself, nat_cmp_total, int_cmp_tota
 use Rattle.std.proofs.lemmas.List.{get_or_default}
 use Rattle.std.proofs.lemmas.Map.Lookups.{exact_bytes, exact_signed}
 use Rattle.vortex_types.specs.Order.{row_cmp}
-use Rattle.vortex_types.specs.Row.{fits_type, value_fits}
-use Rattle.vortex_types.specs.declared.types.DType.{DType}
-use Rattle.vortex_types.specs.declared.types.DType.TheVariants as dtype
 use Rattle.vortex_types.specs.declared.scalar.Value.{Value}
 use Rattle.vortex_types.specs.declared.scalar.Value.TheVariants.{Bool as Truth, Int, Decimal, Utf8, Binary}
 use Rattle.vortex_extremes.specs.InOrder.{IsConstant, at_most}
@@ -177,14 +174,6 @@ at_most-answered a b o h e = rw h (not-greater o e)
     not-greater Equal e = refl
     not-greater Greater e = absurd (true≢false e)
 
-pub not-at_most : (a b : Option Value) (o : Ordering) → row_cmp a b ≡ Some o → is_gt o ≡ true → IsTrue (at_most a b) → ⊥
-not-at_most a b o h e t = greater o e (rw h at t)
-  where
-    greater : (o : Ordering) → is_gt o ≡ true → is_le o ≡ true → ⊥
-    greater Less e t = false≢true e
-    greater Equal e t = false≢true e
-    greater Greater e t = false≢true t
-
 -- at most by three rows
 pub at_most-upto : (a b c : Option Value) (o p r : Ordering) → row_cmp a b ≡ Some o → row_cmp b c ≡ Some p → row_cmp a c ≡ Some r → is_gt o ≡ false → is_gt p ≡ false → is_gt r ≡ false
 at_most-upto a b c o p r ab bc ac e f =
@@ -262,50 +251,6 @@ has-order (Some (Binary a)) (Some (Int b)) e = absurd (omega (arith, e refl refl
 has-order (Some (Binary a)) (Some (Decimal b)) e = absurd (omega (arith, e refl refl))
 has-order (Some (Binary a)) (Some (Utf8 b)) e = absurd (omega (arith, e refl refl))
 has-order (Some (Binary a)) (Some (Binary b)) e = refl
-
--- the kind of a type's values
-abbrev pub type_kind : DType → ℕ
-type_kind (dtype.Bool n) = 1
-type_kind (dtype.Primitive w n) = 2
-type_kind (dtype.Decimal w n) = 3
-type_kind (dtype.Utf8 n) = 4
-type_kind (dtype.Binary n) = 5
-
--- a value of a type is of its kind
-fit-kind : (t : DType) (v : Value) → value_fits t v ≡ true → kind (Some v) ≡ type_kind t
-fit-kind (dtype.Bool n) (Truth a) h = refl
-fit-kind (dtype.Bool n) (Int a) h = absurd (false≢true h)
-fit-kind (dtype.Bool n) (Decimal a) h = absurd (false≢true h)
-fit-kind (dtype.Bool n) (Utf8 a) h = absurd (false≢true h)
-fit-kind (dtype.Bool n) (Binary a) h = absurd (false≢true h)
-fit-kind (dtype.Primitive w n) (Truth a) h = absurd (false≢true h)
-fit-kind (dtype.Primitive w n) (Int a) h = refl
-fit-kind (dtype.Primitive w n) (Decimal a) h = absurd (false≢true h)
-fit-kind (dtype.Primitive w n) (Utf8 a) h = absurd (false≢true h)
-fit-kind (dtype.Primitive w n) (Binary a) h = absurd (false≢true h)
-fit-kind (dtype.Decimal w n) (Truth a) h = absurd (false≢true h)
-fit-kind (dtype.Decimal w n) (Int a) h = absurd (false≢true h)
-fit-kind (dtype.Decimal w n) (Decimal a) h = refl
-fit-kind (dtype.Decimal w n) (Utf8 a) h = absurd (false≢true h)
-fit-kind (dtype.Decimal w n) (Binary a) h = absurd (false≢true h)
-fit-kind (dtype.Utf8 n) (Truth a) h = absurd (false≢true h)
-fit-kind (dtype.Utf8 n) (Int a) h = absurd (false≢true h)
-fit-kind (dtype.Utf8 n) (Decimal a) h = absurd (false≢true h)
-fit-kind (dtype.Utf8 n) (Utf8 a) h = refl
-fit-kind (dtype.Utf8 n) (Binary a) h = absurd (false≢true h)
-fit-kind (dtype.Binary n) (Truth a) h = absurd (false≢true h)
-fit-kind (dtype.Binary n) (Int a) h = absurd (false≢true h)
-fit-kind (dtype.Binary n) (Decimal a) h = absurd (false≢true h)
-fit-kind (dtype.Binary n) (Utf8 a) h = absurd (false≢true h)
-fit-kind (dtype.Binary n) (Binary a) h = refl
-
-row-kind : (t : DType) (a : Option Value) → is_some a ≡ true → IsTrue (fits_type t a) → kind a ≡ type_kind t
-row-kind t None s h = absurd (false≢true s)
-row-kind t (Some v) s h = fit-kind t v h
-
--- rows of one type have an order
-pub fit-order : (t : DType) (a b : Option Value) → IsTrue (fits_type t a) → IsTrue (fits_type t b) → IsTrue (is_some (row_cmp a b))
-fit-order t a b h k = has-order a b (λ s u. row-kind t a s h ∙ sym (row-kind t b u k))
 
 -- an order that there is
 record Ordered (a b : Option Value) : Type 0 where

@@ -4,7 +4,7 @@ use Rattle.vortex_types.specs.Order.{compares}
 use Rattle.vortex_types.specs.Row.{Column, TypedRow}
 use Rattle.vortex_types.specs.Widths.{full_form}
 use Rattle.vortex_types.specs.declared.scalar.Value.{Value}
-use Rattle.vortex_compute.specs.declared.compare.CompareOperator.TheVariants.{Lte}
+use Rattle.vortex_buffer.specs.declared.compare_operator.CompareOperator.TheVariants.{Lte}
 use Rattle.vortex_extremes.specs.InOrder.{at_most}
 
 -- the value is a row, and every row that is a value is at least it

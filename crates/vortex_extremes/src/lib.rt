@@ -18,6 +18,3 @@ pub use order::RowOrder;
 pub use places::ExtremePlaces;
 pub use texts::{text_extremes, texts_are};
 pub use truths::{truth_extremes, truths_are};
-
-#[cfg(test)]
-mod tests;

@@ -1,2 +1,4 @@
+pub mod Copied
+pub mod Covered
 pub mod Fetches
-pub mod Without
+pub mod Targets

@@ -1,5 +1,7 @@
-use Rattle.std.specs.Prelude.{◌≡◌, ℕ, ◌+◌, ◌-◌, ◌^◌, ◌≤◌, min, ◌==◌, Bool, true, false, not, ◌&&◌, IsTrue, cond, Option, Some, is_some, List, [], ◌∷◌, ◌++◌, length, map, filter, find, slice_get}
+use Rattle.std.specs.Prelude.{◌≡◌, ℕ, ◌<◌, ◌==◌, ◌⊎◌, Bool, true, false, not, ◌&&◌, IsTrue, IsSome, Option, Some, is_some, List, ◌∷◌, ◌++◌, length, map, filter, slice_get}
 use Rattle.std.specs.Option.{option_map, option_and_then}
+use Rattle.std.specs.List.{list_any}
+use Rattle.vortex_buffer.specs.Counts.{Rose}
 use Rattle.vortex_io.specs.declared.ids.IoOwnerId.{IoOwnerId}
 use Rattle.vortex_io.specs.declared.ids.IoRequestId.{IoRequestId}
 use Rattle.vortex_io.specs.declared.request.IoIntent.{IoIntent}
@@ -44,14 +46,18 @@ grown told entries = option_map (λ journal. journal ++ entries) told
 abbrev pub is_named : IoOwnerId → IoRequestId → Fetch → Bool
 is_named owner request fetch = (fetch.owner.0 == owner.0) && (fetch.request.0 == request.0)
 
--- the list without the first fetch of that owner and number
-abbrev pub without : IoOwnerId → IoRequestId → List Fetch → List Fetch
-without owner request [] = []
-without owner request (fetch ∷ rest) = cond (is_named owner request fetch) rest (fetch ∷ without owner request rest)
+-- one entry of that owner and number left the list, in which the others stay as they stood
+pub record Taken (owner : IoOwnerId) (request : IoRequestId) (old new : List Fetch) (entry : Fetch) : Type 0 where
+  pub before : List Fetch
+  pub behind : List Fetch
+  pub stood : old ≡ before ++ entry ∷ behind
+  pub left : new ≡ before ++ behind
+  pub whose : entry.owner ≡ owner
+  pub number : entry.request ≡ request
 
--- the target of the first fetch of that owner and number
-abbrev pub target_at : IoOwnerId → IoRequestId → List Fetch → Option IoTarget
-target_at owner request outstanding = option_map (λ (fetch : Fetch). fetch.target) (find (is_named owner request) outstanding)
+-- the targets of all fetches of that owner and number
+abbrev pub targets_at : IoOwnerId → IoRequestId → List Fetch → List IoTarget
+targets_at owner request outstanding = map (λ (fetch : Fetch). fetch.target) (filter (is_named owner request) outstanding)
 
 -- whether a fetch is another owner's
 abbrev pub is_of_others : IoOwnerId → Fetch → Bool
@@ -97,11 +103,30 @@ pub record Answers {C M : Type 0} (means : C → M) (told : Option (Content C)) 
   pub kind : IsTrue (is_of_kind target result)
   pub agrees : (content : Content C) → told ≡ Some content → Agrees means content target result
 
--- a completion takes the first outstanding fetch of its owner and number, and answers that fetch's target
-pub record Completes {C M : Type 0} (means : C → M) (told : Option (Content C)) (old new : List Fetch) (completion : Completion C) : Type 0 where
-  pub taken : new ≡ without completion.owner completion.request old
-  pub answers : (target : IoTarget) × (target_at completion.owner completion.request old ≡ Some target) × Answers means told target completion.result
+-- a source is honest in a call: its count of lies neither rose nor stands at its last number
+abbrev pub IsHonest : ℕ → ℕ → Type 0
+IsHonest before now = ¬ (Rose before now)
 
--- a count of faults rose, or stands at its last value
-abbrev pub Faulted : ℕ → ℕ → Type 0
-Faulted old new = min (old + 1) (2 ^ 64 - 1) ≤ new
+-- a completion takes an outstanding fetch of its owner and number, and answers its target where the source is honest
+pub record TakesOne {C M : Type 0} (means : C → M) (told : Option (Content C)) (old new : List Fetch) (before now : ℕ) (completion : Completion C) : Type 0 where
+  pub entry : Fetch
+  pub taken : Taken completion.owner completion.request old new entry
+  pub answers : IsHonest before now → Answers means told entry.target completion.result
+
+-- no outstanding fetch is of a completion's owner and number, so none is taken, and the lie is counted
+pub record TakesNone {C : Type 0} (old new : List Fetch) (before now : ℕ) (completion : Completion C) : Type 0 where
+  pub none : list_any (is_named completion.owner completion.request) old ≡ false
+  pub same : new ≡ old
+  pub counted : Rose before now
+
+-- what a completion is to the outstanding fetches, the told content and the count of lies
+abbrev pub Completes : {C M : Type 0} → (C → M) → Option (Content C) → List Fetch → List Fetch → ℕ → ℕ → Completion C → Type 0
+Completes means told old new before now completion = TakesOne means told old new before now completion ⊎ TakesNone old new before now completion
+
+-- where a sure source tells its content, its faults rise only where a batch has a fetch of a chunk that the content lacks
+abbrev pub FaultsOutside : {C : Type 0} → Bool → Option (Content C) → List IoRequest → ℕ → ℕ → Type 0
+FaultsOutside {C} sure told batch before now = IsTrue sure → (content : Content C) → told ≡ Some content → before < now → IsTrue (list_any (is_outside content) batch)
+
+-- where a sure source tells its content, its faults stay
+abbrev pub FaultsNowhere : {C : Type 0} → Bool → Option (Content C) → ℕ → ℕ → Type 0
+FaultsNowhere sure told before now = IsTrue sure → IsSome told → now ≡ before

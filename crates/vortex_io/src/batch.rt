@@ -6,9 +6,16 @@ use std::alloc::{AllocError, Global};
 use std::marker::Model;
 
 /// Requests that are submitted together. Contracts see the list of them.
-#[derive(Drop)]
 pub struct IoBatch {
     requests: Vec<IoRequest>,
+}
+
+impl Drop for IoBatch {
+    fn drop(self) {
+        let IoBatch {
+            requests: _requests,
+        } = self;
+    }
 }
 
 impl Model for IoBatch {

@@ -1,14 +1,17 @@
 // What a source in memory does with its parts: its chunks, its outstanding fetches and its journal.
-ghost use Rattle.std.specs.Prelude.{◌≡◌, ◌+◌, ◌≤◌, ◌++◌, length, map, vec_len, vec_capacity, IsTrue, IfOk, OnOk};
+ghost use Rattle.std.specs.Prelude.{◌≡◌, ℕ, ◌+◌, ◌<◌, ◌≤◌, ◌++◌, Some, length, map, remove, slice_get, vec_len, vec_capacity, IsTrue, IfOk, OnOk, OnErr};
 ghost use Rattle.std.specs.Option.{option_copied};
 ghost use Rattle.std.specs.List.{list_any};
 ghost use Rattle.std.specs.VecDeque.{deque_len, deque_capacity};
-ghost use Rattle.vortex_io.specs.Source.{fetches, submissions, without_owner, chunk_at, has_target, is_outside, Agrees};
-ghost use Rattle.vortex_io.specs.Memory.{columns_of};
+ghost use Rattle.vortex_io.specs.Source.{fetches, submissions, without_owner, chunk_at, has_target, is_outside, Agrees, Completes};
+ghost use Rattle.vortex_io.specs.Orders.{order_of, picked_place};
+ghost use Rattle.vortex_io.specs.Memory.{columns_of, AreHeld, Delivers};
+ghost use Rattle.vortex_io.specs.declared.request.Fetch.{Fetch};
 
 use super::ids::IoOwnerId;
+use super::order::{Arrive, pick};
 use super::payload::Payload;
-use super::request::{Fetch, IoIntent, IoRequest, IoResult, IoTarget, JournalEntry};
+use super::request::{Completion, Fetch, IoIntent, IoRequest, IoResult, IoTarget, JournalEntry};
 use std::alloc::{AllocError, Global};
 use std::collections::VecDeque;
 
@@ -37,7 +40,7 @@ pub fn asks_outside<C>(chunks: &[Vec<C>], requests: &[IoRequest]) -> bool
 }
 
 // The answer to a target that the chunks have.
-pub fn copy_of<C: Payload>(
+fn copy_of<C: Payload>(
     alloc: Global,
     chunks: &[Vec<C>],
     target: IoTarget,
@@ -52,6 +55,62 @@ pub fn copy_of<C: Payload>(
         }
         IoTarget::Size => Ok(IoResult::Size(chunks.len() as u64)),
     }
+}
+
+// The completion of a fetch of something that the chunks have.
+fn completion_of<C: Payload>(
+    alloc: Global,
+    chunks: &[Vec<C>],
+    fetch: Fetch,
+) -> Result<Completion<C>, AllocError>
+    requires { IsTrue (has_target (map columns_of chunks.now) fetch.target) }
+    ensures { IfOk result (λ completion. Delivers C.means (map columns_of chunks.now) fetch completion) }
+{
+    Ok(Completion {
+        owner: fetch.owner,
+        request: fetch.request,
+        result: copy_of(alloc, chunks, fetch.target)?,
+    })
+}
+
+// Completes the fetch that is picked next. Without memory it stays.
+pub fn complete_next<C: Payload>(
+    alloc: Global,
+    chunks: &[Vec<C>],
+    outstanding: &mut VecDeque<Fetch>,
+    arrive: Arrive,
+    number: u64,
+) -> Result<Completion<C>, AllocError>
+    requires some { 0 < deque_len outstanding.old }
+    requires held { AreHeld (map columns_of chunks.now) outstanding.old.items }
+    ensures ok { IfOk result (λ completion. (fetch : Fetch) × (slice_get outstanding.old.items (picked_place (order_of arrive) number (length outstanding.old.items)) ≡ Some fetch) × Delivers C.means (map columns_of chunks.now) fetch completion) }
+    ensures taken { OnOk result (outstanding.new.items ≡ remove outstanding.old.items (picked_place (order_of arrive) number (length outstanding.old.items))) }
+    ensures accounts { IfOk result (λ completion. (before now : ℕ) → Completes C.means (Some (map columns_of chunks.now)) outstanding.old.items outstanding.new.items before now completion) }
+    ensures left { AreHeld (map columns_of chunks.now) outstanding.new.items }
+    ensures err { OnErr result (outstanding.new.items ≡ outstanding.old.items) }
+{
+    let place = pick(arrive, number, outstanding.len());
+    complete(alloc, chunks, outstanding, place)
+}
+
+// Completes the fetch at a place. Without memory it stays.
+fn complete<C: Payload>(
+    alloc: Global,
+    chunks: &[Vec<C>],
+    outstanding: &mut VecDeque<Fetch>,
+    place: usize,
+) -> Result<Completion<C>, AllocError>
+    requires within { place < deque_len outstanding.old }
+    requires held { AreHeld (map columns_of chunks.now) outstanding.old.items }
+    ensures ok { IfOk result (λ completion. (fetch : Fetch) × (slice_get outstanding.old.items place ≡ Some fetch) × Delivers C.means (map columns_of chunks.now) fetch completion) }
+    ensures taken { OnOk result (outstanding.new.items ≡ remove outstanding.old.items place) }
+    ensures accounts { IfOk result (λ completion. (before now : ℕ) → Completes C.means (Some (map columns_of chunks.now)) outstanding.old.items outstanding.new.items before now completion) }
+    ensures left { AreHeld (map columns_of chunks.now) outstanding.new.items }
+    ensures err { OnErr result (outstanding.new.items ≡ outstanding.old.items) }
+{
+    let completion = completion_of(alloc, chunks, outstanding[place])?;
+    let _ = outstanding.remove(place);
+    Ok(completion)
 }
 
 // Makes room for as many more fetches and entries, and changes neither list.

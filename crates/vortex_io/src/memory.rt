@@ -1,11 +1,14 @@
 // A source whose chunks are in memory.
-ghost use Rattle.std.specs.Prelude.{◌≡◌, ◌<◌, ◌≤◌, ◌↔◌, [], ◌++◌, Some, length, map, IsSome, IsTrue, OnOk, OnErr, IfOk, IfErr, MatchResult};
-ghost use Rattle.std.specs.List.{list_any};
-ghost use Rattle.vortex_io.specs.Source.{fetches, submissions, chunk_at, is_outside, without_owner, Completes};
+ghost use Rattle.std.specs.Prelude.{◌≡◌, [], Some, false, map, IsSome};
+ghost use Rattle.vortex_io.specs.Orders.{first_number, order_of};
+ghost use Rattle.vortex_io.specs.Source.{chunk_at};
 
 use super::batch::IoBatch;
-use super::held::{add_fetches, add_submissions, asks_outside, copy_of, make_room, remove_fetches};
+use super::held::{
+    add_fetches, add_submissions, asks_outside, complete_next, make_room, remove_fetches,
+};
 use super::ids::IoOwnerId;
+use super::order::{Arrive, after_pick, answers_polls, starting};
 use super::payload::Payload;
 use super::request::{Completion, Fetch, IoError, JournalEntry};
 use super::source::IoSource;
@@ -13,30 +16,34 @@ use std::alloc::Global;
 use std::collections::VecDeque;
 use std::marker::Model;
 
-/// Which outstanding fetch a source completes next.
-#[derive(Clone, Copy, Debug, PartialEq, Eq)]
-pub enum Order {
-    /// The oldest.
-    First,
-}
-
-/// When a source completes fetches, and in which order.
-#[derive(Clone, Copy, Debug, PartialEq, Eq)]
-pub enum Arrive {
-    /// When it is waited for; a poll finds nothing ready.
-    OnWait(Order),
-}
-
 /// A source that keeps its chunks in memory, by split and by column, and completes a fetch with a copy of its chunk. It
 /// fails only at a fetch of a chunk that it lacks.
-#[derive(Drop)]
 pub struct MemorySource<C: Payload> {
     alloc: Global,
     chunks: Vec<Vec<C>>,
     arrive: Arrive,
+    number: u64,
     outstanding: VecDeque<Fetch>,
     journal: Vec<JournalEntry>,
     faults: u64,
+    quiet: u64,
+    stale: bool,
+}
+
+impl<C: Payload + Drop> Drop for MemorySource<C> {
+    fn drop(self) {
+        let MemorySource {
+            alloc: _alloc,
+            chunks: _chunks,
+            arrive: _arrive,
+            number: _number,
+            outstanding: _outstanding,
+            journal: _journal,
+            faults: _faults,
+            quiet: _quiet,
+            stale: _stale,
+        } = self;
+    }
 }
 
 impl<C: Payload> Model for MemorySource<C> {
@@ -45,7 +52,7 @@ impl<C: Payload> Model for MemorySource<C> {
 
     ghost Value = { MemoryState C };
 
-    ghost view = { λ s. record { chunks = map columns_of s.chunks.items; arrive = s.arrive; outstanding = s.outstanding.items; journal = s.journal.items; faults = s.faults } };
+    ghost view = { λ s. record { chunks = map columns_of s.chunks.items; arrive = s.arrive; number = s.number; outstanding = s.outstanding.items; journal = s.journal.items; faults = s.faults; quiet = s.quiet; stale = s.stale } };
 
     ghost invariant = { λ s. AreHeld (map columns_of s.chunks.items) s.outstanding.items };
 }
@@ -55,15 +62,18 @@ impl<C: Payload> MemorySource<C> {
 
     /// A source of these chunks, by split and by column, with nothing outstanding. It takes no memory.
     pub fn new(alloc: Global, chunks: Vec<Vec<C>>, arrive: Arrive) -> MemorySource<C>
-        ensures { result ≡ record { chunks = map columns_of chunks.items; arrive = arrive; outstanding = []; journal = []; faults = 0 } }
+        ensures { result ≡ record { chunks = map columns_of chunks.items; arrive = arrive; number = first_number (order_of arrive); outstanding = []; journal = []; faults = 0; quiet = 0; stale = false } }
     {
         MemorySource {
             alloc,
             chunks,
             arrive,
+            number: starting(arrive),
             outstanding: VecDeque::new(alloc),
             journal: Vec::new(alloc),
             faults: 0,
+            quiet: 0,
+            stale: false,
         }
     }
 
@@ -98,7 +108,9 @@ impl<C: Payload> MemorySource<C> {
 }
 
 impl<C: Payload> IoSource for MemorySource<C> {
-    ghost use Rattle.vortex_io.specs.Memory.{after_refusal, CompletesOldest};
+    ghost use Rattle.std.specs.Prelude.{true};
+    ghost use Rattle.vortex_io.specs.Source.{without_owner};
+    ghost use Rattle.vortex_io.specs.Memory.{SubmitsInMemory, PollsInMemory, WaitsInMemory};
 
     type Payload = C;
 
@@ -110,12 +122,25 @@ impl<C: Payload> IoSource for MemorySource<C> {
 
     ghost faults = { λ s. s.faults };
 
-    fn submit(&mut self, owner: IoOwnerId, batch: IoBatch) -> Result<(), IoError>
-        ensures ok { OnOk result (self.new ≡ record self.old { outstanding = self.old.outstanding ++ fetches owner batch; journal = self.old.journal ++ submissions owner batch }) }
-        ensures err { IfErr result (λ error. self.new ≡ after_refusal error self.old) }
-        ensures fault { (result ≡ Err IoError.Fault) ↔ IsTrue (list_any (is_outside self.old.chunks) batch) }
-        ensures counts { self.old.faults ≤ self.new.faults }
-    {
+    ghost lies = { λ _. 0 };
+
+    ghost quiet = { λ s. s.quiet };
+
+    ghost stale = { λ s. s.stale };
+
+    ghost sure = { λ _. true };
+
+    ghost submits = { SubmitsInMemory };
+
+    ghost polls = { PollsInMemory C.means };
+
+    ghost waits = { WaitsInMemory C.means };
+
+    ghost releases = { λ old owner new. new ≡ record old { outstanding = without_owner owner old.outstanding } };
+
+    ghost clears = { λ old new. new ≡ record old { outstanding = [] } };
+
+    fn submit(&mut self, owner: IoOwnerId, batch: IoBatch) -> Result<(), IoError> {
         let requests = batch.as_slice();
         if asks_outside(&self.chunks, requests) {
             self.faults = self.faults.saturating_add(1);
@@ -124,46 +149,46 @@ impl<C: Payload> IoSource for MemorySource<C> {
         make_room(&mut self.outstanding, &mut self.journal, requests.len())?;
         add_fetches(&mut self.outstanding, owner, requests);
         add_submissions(&mut self.journal, owner, requests);
+        self.stale = true;
         Ok(())
     }
 
-    fn poll(&mut self) -> Result<Option<Completion<C>>, IoError>
-        ensures none { result ≡ Ok None }
-        ensures kept { self.new ≡ self.old }
-    {
-        Ok(None)
+    fn poll(&mut self) -> Result<Option<Completion<C>>, IoError> {
+        if !answers_polls(self.arrive) || self.outstanding.is_empty() {
+            self.quiet = self.quiet.saturating_add(1);
+            self.stale = false;
+            return Ok(None);
+        }
+        let completion = complete_next(
+            self.alloc,
+            &self.chunks,
+            &mut self.outstanding,
+            self.arrive,
+            self.number,
+        )?;
+        self.number = after_pick(self.arrive, self.number);
+        Ok(Some(completion))
     }
 
-    fn wait(&mut self) -> Result<Completion<C>, IoError>
-        requires { 0 < length self.old.outstanding }
-        ensures ok { IfOk result (λ completion. CompletesOldest C.means self.old self.new completion) }
-        ensures err { OnErr result (self.new ≡ self.old) }
-        ensures memory { IfErr result (λ error. error ≡ IoError.OutOfMemory) }
-        ensures accounts { MatchResult result
-            (λ completion. Completes C.means (Some self.old.chunks) self.old.outstanding self.new.outstanding completion)
-            (λ _. self.new.outstanding ≡ self.old.outstanding) }
-    {
-        let Arrive::OnWait(Order::First) = self.arrive;
-        let oldest = self.outstanding[0];
-        let result = copy_of(self.alloc, &self.chunks, oldest.target)?;
-        self.journal.push(JournalEntry::Waited)?;
-        self.outstanding.pop_front();
-        Ok(Completion {
-            owner: oldest.owner,
-            request: oldest.request,
-            result,
-        })
+    fn wait(&mut self) -> Result<Completion<C>, IoError> {
+        self.journal.reserve(1)?;
+        let completion = complete_next(
+            self.alloc,
+            &self.chunks,
+            &mut self.outstanding,
+            self.arrive,
+            self.number,
+        )?;
+        self.number = after_pick(self.arrive, self.number);
+        self.journal.push_reserved(JournalEntry::Waited);
+        Ok(completion)
     }
 
-    fn release(&mut self, owner: IoOwnerId)
-        ensures { self.new ≡ record self.old { outstanding = without_owner owner self.old.outstanding } }
-    {
+    fn release(&mut self, owner: IoOwnerId) {
         remove_fetches(&mut self.outstanding, owner);
     }
 
-    fn clear(&mut self)
-        ensures { self.new ≡ record self.old { outstanding = [] } }
-    {
+    fn clear(&mut self) {
         self.outstanding.clear();
     }
 }

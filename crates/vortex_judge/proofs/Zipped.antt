@@ -1,5 +1,5 @@
 -- One more place of two lists.
-use Rattle.std.proofs.Common.{◌≡◌, subst, ℕ, ◌-◌, ◌≤◌, List, [], ◌∷◌, Bool, true, length, get_or, drop, take, arith}
+use Rattle.std.proofs.Common.{◌≡◌, subst, ◌-◌, ◌≤◌, List, [], ◌∷◌, Bool, true, length, get_or, drop, take, arith}
 use Rattle.std.specs.Prelude.{IsTrue, ◌↔◌}
 use Rattle.std.specs.List.{AllZip}
 use Rattle.std.proofs.lemmas.List.{take_all}

@@ -8,10 +8,18 @@ use vortex_array::{DType, Value};
 use vortex_table::WorkScope;
 
 /// A type and a list of rows, each a value or null.
-#[derive(Drop)]
 pub struct PlainColumn {
     dtype: DType,
     rows: PlainRow,
+}
+
+impl Drop for PlainColumn {
+    fn drop(self) {
+        let PlainColumn {
+            dtype: _dtype,
+            rows: _rows,
+        } = self;
+    }
 }
 
 impl Model for PlainColumn {
@@ -46,9 +54,14 @@ impl PlainColumn {
 }
 
 /// The chunks of a split, seen as columns.
-#[derive(Drop)]
 pub struct PlainSplit {
     columns: Vec<PlainColumn>,
+}
+
+impl Drop for PlainSplit {
+    fn drop(self) {
+        let PlainSplit { columns: _columns } = self;
+    }
 }
 
 impl Model for PlainSplit {
@@ -77,9 +90,14 @@ impl PlainSplit {
 }
 
 /// The content of a source: its splits in order.
-#[derive(Drop)]
 pub struct PlainContent {
     splits: Vec<PlainSplit>,
+}
+
+impl Drop for PlainContent {
+    fn drop(self) {
+        let PlainContent { splits: _splits } = self;
+    }
 }
 
 impl Model for PlainContent {
@@ -108,11 +126,20 @@ impl PlainContent {
 
 /// A batch: the split that it names, its number of rows, its columns. The number stands by itself, since a batch may
 /// have no column.
-#[derive(Drop)]
 pub struct PlainBatch {
     scope: WorkScope,
     rows: u64,
     columns: Vec<PlainColumn>,
+}
+
+impl Drop for PlainBatch {
+    fn drop(self) {
+        let PlainBatch {
+            scope: _scope,
+            rows: _rows,
+            columns: _columns,
+        } = self;
+    }
 }
 
 impl Model for PlainBatch {
@@ -158,13 +185,24 @@ impl PlainBatch {
 }
 
 /// What an answer is judged by: the splits of the table, the projected types, the chosen rows, the limit and the order.
-#[derive(Drop)]
 pub struct Question {
     scopes: Vec<WorkScope>,
     types: Vec<DType>,
     rows: Vec<PlacedRow>,
     limit: Option<u64>,
     ordered: bool,
+}
+
+impl Drop for Question {
+    fn drop(self) {
+        let Question {
+            scopes: _scopes,
+            types: _types,
+            rows: _rows,
+            limit: _limit,
+            ordered: _ordered,
+        } = self;
+    }
 }
 
 impl Model for Question {

@@ -7,9 +7,14 @@ use std::marker::Model;
 use vortex_array::{ColumnDesc, DType, Value};
 
 /// A row: a value or null for each column. Contracts see its list.
-#[derive(Drop)]
 pub struct PlainRow {
     cells: Vec<Option<Value>>,
+}
+
+impl Drop for PlainRow {
+    fn drop(self) {
+        let PlainRow { cells: _cells } = self;
+    }
 }
 
 impl Model for PlainRow {
@@ -37,9 +42,14 @@ impl PlainRow {
 }
 
 /// Rows. Contracts see their list.
-#[derive(Drop)]
 pub struct PlainRows {
     rows: Vec<PlainRow>,
+}
+
+impl Drop for PlainRows {
+    fn drop(self) {
+        let PlainRows { rows: _rows } = self;
+    }
 }
 
 impl Model for PlainRows {
@@ -68,10 +78,18 @@ impl PlainRows {
 }
 
 /// A decoded table: its columns, and the rows of each partition.
-#[derive(Drop)]
 pub struct PlainTable {
     columns: Vec<ColumnDesc>,
     partitions: Vec<PlainRows>,
+}
+
+impl Drop for PlainTable {
+    fn drop(self) {
+        let PlainTable {
+            columns: _columns,
+            partitions: _partitions,
+        } = self;
+    }
 }
 
 impl Model for PlainTable {
@@ -110,11 +128,20 @@ impl PlainTable {
 }
 
 /// A row and its place: the number of its partition, and its own number there.
-#[derive(Drop)]
 pub struct PlacedRow {
     partition: u64,
     row: u64,
     values: PlainRow,
+}
+
+impl Drop for PlacedRow {
+    fn drop(self) {
+        let PlacedRow {
+            partition: _partition,
+            row: _row,
+            values: _values,
+        } = self;
+    }
 }
 
 impl Model for PlacedRow {

@@ -1,7 +1,8 @@
 // The truth of a filter for one row, in three values. `None` stands for null.
-ghost use Rattle.std.specs.Prelude.{◌≡◌, ◌≤◌, length, option_copied};
+ghost use Rattle.std.specs.Prelude.{◌≡◌, ◌≤◌, is_none, length, not, option_and_then, option_copied, option_map};
 ghost use Rattle.vortex_types.specs.Cells.{cell_of};
-ghost use Rattle.vortex_types.specs.Truth.{all_three, and3, is_like as likes, keeps as keeps_row, lies_between, operand_value as value_in, or3, truth, truth_value};
+ghost use Rattle.vortex_types.specs.Order.{compares as compares_values};
+ghost use Rattle.vortex_types.specs.Truth.{all_three, and3, both, is_like as likes, keeps as keeps_row, lies_between, operand_value as value_in, or3, truth, truth_value};
 
 use crate::like::matches;
 use crate::order::compares;
@@ -98,31 +99,90 @@ pub fn or(p: Option<bool>, q: Option<bool>) -> Option<bool>
     }
 }
 
+// The negation in three values: null where the truth is null.
+fn negation(p: Option<bool>) -> Option<bool>
+    ensures { result ≡ option_map not p }
+{
+    match p {
+        Some(p) => Some(!p),
+        None => None,
+    }
+}
+
+// Whether an operand is null.
+fn is_null(columns: &[ColumnDesc], row: &[Option<Value>], x: &Operand) -> bool
+    ensures { result ≡ is_none (value_in (cell_of columns.now row.now) x.now) }
+{
+    operand_value(columns, row, x).is_none()
+}
+
+// The truth of an operand alone.
+fn truth_of_operand(columns: &[ColumnDesc], row: &[Option<Value>], x: &Operand) -> Option<bool>
+    ensures { result ≡ option_and_then truth_value (value_in (cell_of columns.now row.now) x.now) }
+{
+    truth_in(operand_value(columns, row, x)?)
+}
+
+// The truth of a comparison of two operands.
+fn truth_of_comparison(
+    columns: &[ColumnDesc],
+    row: &[Option<Value>],
+    operator: CompareOperator,
+    x: &Operand,
+    y: &Operand,
+) -> Option<bool>
+    ensures { result ≡ both (compares_values operator) (value_in (cell_of columns.now row.now) x.now) (value_in (cell_of columns.now row.now) y.now) }
+{
+    let x = operand_value(columns, row, x)?;
+    let y = operand_value(columns, row, y)?;
+    Some(compares(operator, x, y))
+}
+
+// The truth of an operand's lying between two others.
+fn truth_of_between(
+    columns: &[ColumnDesc],
+    row: &[Option<Value>],
+    options: &BetweenOptions,
+    x: &Operand,
+    lower: &Operand,
+    upper: &Operand,
+) -> Option<bool>
+    ensures { result ≡ all_three (lies_between options.now) (value_in (cell_of columns.now row.now) x.now) (value_in (cell_of columns.now row.now) lower.now) (value_in (cell_of columns.now row.now) upper.now) }
+{
+    let x = operand_value(columns, row, x)?;
+    let lower = operand_value(columns, row, lower)?;
+    let upper = operand_value(columns, row, upper)?;
+    Some(is_between(options, x, lower, upper))
+}
+
+// The truth of an operand's matching a pattern.
+fn truth_of_like(
+    columns: &[ColumnDesc],
+    row: &[Option<Value>],
+    x: &Operand,
+    pattern: &Operand,
+) -> Option<bool>
+    ensures { result ≡ both likes (value_in (cell_of columns.now row.now) x.now) (value_in (cell_of columns.now row.now) pattern.now) }
+{
+    let x = operand_value(columns, row, x)?;
+    let pattern = operand_value(columns, row, pattern)?;
+    Some(is_like(x, pattern))
+}
+
 /// The truth of a filter for a row.
 #[tactic(auto, using(vortex_types::specs::declared::filter::Filter::the_lemmas))]
 pub fn truth_of(columns: &[ColumnDesc], row: &[Option<Value>], filter: &Filter) -> Option<bool>
     ensures { result ≡ truth (cell_of columns.now row.now) filter.now }
 {
     match filter {
-        Filter::Truth(x) => truth_in(operand_value(columns, row, x)?),
-        Filter::Compare(operator, x, y) => {
-            let x = operand_value(columns, row, x)?;
-            let y = operand_value(columns, row, y)?;
-            Some(compares(*operator, x, y))
-        }
+        Filter::Truth(x) => truth_of_operand(columns, row, x),
+        Filter::Compare(operator, x, y) => truth_of_comparison(columns, row, *operator, x, y),
         Filter::Between(options, x, lower, upper) => {
-            let x = operand_value(columns, row, x)?;
-            let lower = operand_value(columns, row, lower)?;
-            let upper = operand_value(columns, row, upper)?;
-            Some(is_between(options, x, lower, upper))
+            truth_of_between(columns, row, options, x, lower, upper)
         }
-        Filter::Like(x, pattern) => {
-            let x = operand_value(columns, row, x)?;
-            let pattern = operand_value(columns, row, pattern)?;
-            Some(is_like(x, pattern))
-        }
-        Filter::IsNull(x) => Some(operand_value(columns, row, x).is_none()),
-        Filter::Not(f) => Some(!truth_of(columns, row, f.get())?),
+        Filter::Like(x, pattern) => truth_of_like(columns, row, x, pattern),
+        Filter::IsNull(x) => Some(is_null(columns, row, x)),
+        Filter::Not(f) => negation(truth_of(columns, row, f.get())),
         Filter::And(f, g) => and(
             truth_of(columns, row, f.get()),
             truth_of(columns, row, g.get()),

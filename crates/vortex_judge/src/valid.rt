@@ -1,5 +1,5 @@
 // Whether a request is valid for a table's columns.
-ghost use Rattle.std.specs.Prelude.{◌≡◌, [], ◌∷◌, not, find, is_some, option_copied};
+ghost use Rattle.std.specs.Prelude.{◌≡◌, [], ◌∷◌, ◌++◌, not, find, is_some, option_copied};
 ghost use Rattle.vortex_types.specs.Cells.{dtype_of};
 ghost use Rattle.vortex_types.specs.Typed.{filter_names, is_constant as is_constant_operand, is_text, is_truth_value, operand_names, operand_type, same_apart_from_nullability, same_type, well_typed as is_well_typed};
 ghost use Rattle.vortex_table.specs.Valid.{first_unknown as unknown_first, projection_names};
@@ -41,6 +41,33 @@ fn unknown_operand<'a>(columns: &[ColumnDesc], operand: &'a Operand) -> Option<&
     }
 }
 
+// The first name of two operands that no column has.
+#[tactic(auto, using(crate::proofs::Names::find_append))]
+fn unknown_of_two<'a>(columns: &[ColumnDesc], x: &'a Operand, y: &'a Operand) -> Option<&'a Name>
+    ensures { option_copied result ≡ find (λ n. not (is_some (dtype_of columns.now n))) (operand_names x.now ++ operand_names y.now) }
+{
+    match unknown_operand(columns, x) {
+        Some(name) => Some(name),
+        None => unknown_operand(columns, y),
+    }
+}
+
+// The first name of three operands that no column has.
+#[tactic(auto, using(crate::proofs::Names::find_append))]
+fn unknown_of_three<'a>(
+    columns: &[ColumnDesc],
+    x: &'a Operand,
+    y: &'a Operand,
+    z: &'a Operand,
+) -> Option<&'a Name>
+    ensures { option_copied result ≡ find (λ n. not (is_some (dtype_of columns.now n))) (operand_names x.now ++ operand_names y.now ++ operand_names z.now) }
+{
+    match unknown_operand(columns, x) {
+        Some(name) => Some(name),
+        None => unknown_of_two(columns, y, z),
+    }
+}
+
 // The first name of a filter that is not the table's.
 #[tactic(auto, using(vortex_types::specs::declared::filter::Filter::the_lemmas, crate::proofs::Names::find_append))]
 fn unknown_in<'a>(columns: &[ColumnDesc], filter: &'a Filter) -> Option<&'a Name>
@@ -49,21 +76,9 @@ fn unknown_in<'a>(columns: &[ColumnDesc], filter: &'a Filter) -> Option<&'a Name
     match filter {
         Filter::Truth(x) => unknown_operand(columns, x),
         Filter::IsNull(x) => unknown_operand(columns, x),
-        Filter::Compare(_, x, y) => match unknown_operand(columns, x) {
-            Some(name) => Some(name),
-            None => unknown_operand(columns, y),
-        },
-        Filter::Like(x, y) => match unknown_operand(columns, x) {
-            Some(name) => Some(name),
-            None => unknown_operand(columns, y),
-        },
-        Filter::Between(_, x, lower, upper) => match unknown_operand(columns, x) {
-            Some(name) => Some(name),
-            None => match unknown_operand(columns, lower) {
-                Some(name) => Some(name),
-                None => unknown_operand(columns, upper),
-            },
-        },
+        Filter::Compare(_, x, y) => unknown_of_two(columns, x, y),
+        Filter::Like(x, y) => unknown_of_two(columns, x, y),
+        Filter::Between(_, x, lower, upper) => unknown_of_three(columns, x, lower, upper),
         Filter::Not(f) => unknown_in(columns, f.get()),
         Filter::And(f, g) => match unknown_in(columns, f.get()) {
             Some(name) => Some(name),

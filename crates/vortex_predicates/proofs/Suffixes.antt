@@ -33,10 +33,6 @@ pub suffix-whole : (f : List ℕ → Bool) (text : List ℕ) → f text ≡ true
 suffix-whole f [] e = e
 suffix-whole f (c ∷ text) e = ap (λ b. b || some_suffix f text) e
 
--- where the first character is out, some suffix passes only behind it
-pub suffix-behind : (f : List ℕ → Bool) (c : ℕ) (text : List ℕ) → f (c ∷ text) ≡ false → some_suffix f (c ∷ text) ≡ some_suffix f text
-suffix-behind f c text e = ap (λ b. b || some_suffix f text) e
-
 -- a suffix that passes one character and then the rest has that rest behind its first character
 tail-suffix : (f g : List ℕ → Bool) (test : ℕ → Bool) → ((t : List ℕ) → f t ≡ first_then test g t) → (c : ℕ) (t : List ℕ)
     → some_suffix f (c ∷ t) ≡ true → some_suffix g t ≡ true
@@ -57,11 +53,6 @@ suffix-twice f g h (c ∷ t) e =
 pub suffix-end : (t : List ℕ) → some_suffix (matches_chars []) t ≡ true
 suffix-end [] = refl
 suffix-end (c ∷ t) = suffix-end t
-
--- suffixes that pass the same test
-pub suffix-same : (f g : List ℕ → Bool) → ((t : List ℕ) → f t ≡ g t) → (t : List ℕ) → some_suffix f t ≡ some_suffix g t
-suffix-same f g h [] = h []
-suffix-same f g h (c ∷ t) = ap (λ b. b || some_suffix f t) (h (c ∷ t)) ∙ ap (λ b. g (c ∷ t) || b) (suffix-same f g h t)
 
 -- a suffix that asks for a suffix asks for one
 pub suffix-run : (f g : List ℕ → Bool) → ((t : List ℕ) → f t ≡ some_suffix g t) → (t : List ℕ) → some_suffix f t ≡ some_suffix g t

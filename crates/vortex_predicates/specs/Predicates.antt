@@ -2,7 +2,7 @@
 use Rattle.std.specs.Prelude.{ℕ, List, Bool, false, Option, Some, None}
 use Rattle.vortex_types.specs.declared.scalar.Value.{Value}
 use Rattle.vortex_types.specs.declared.scalar.Value.TheVariants.{Utf8}
-use Rattle.vortex_compute.specs.declared.compare.CompareOperator.{CompareOperator}
+use Rattle.vortex_buffer.specs.declared.compare_operator.CompareOperator.{CompareOperator}
 use Rattle.vortex_types.specs.declared.filter.BetweenOptions.{BetweenOptions}
 use Rattle.vortex_types.specs.Order.{compares}
 use Rattle.vortex_types.specs.Row.{TypedRow}

@@ -4,17 +4,27 @@ ghost use Rattle.vortex_types.specs.Truth.{lower_operator, upper_operator};
 
 use crate::predicate::Predicate;
 use std::marker::Model;
-use vortex_compute::CompareOperator;
+use vortex_buffer::CompareOperator;
 use vortex_types::{BetweenOptions, Scalar, StrictComparison, ValueRef, compares};
 
 /// The test whether a value lies between two constants, each of which is left out where its option is strict. A value of
 /// another kind than a constant's never does.
-#[derive(Drop)]
 pub struct BetweenTo {
     options: BetweenOptions,
     lower: Scalar,
     upper: Scalar,
     asked: u64,
+}
+
+impl Drop for BetweenTo {
+    fn drop(self) {
+        let BetweenTo {
+            options: _options,
+            lower: _lower,
+            upper: _upper,
+            asked: _asked,
+        } = self;
+    }
 }
 
 impl Model for BetweenTo {

@@ -3,15 +3,24 @@ ghost use Rattle.std.specs.Prelude.{◌≡◌, ◌≢◌, None};
 
 use crate::predicate::Predicate;
 use std::marker::Model;
-use vortex_compute::CompareOperator;
+use vortex_buffer::CompareOperator;
 use vortex_types::{Scalar, ValueRef, compares};
 
 /// The test whether a value stands so to a constant. A value of another kind than the constant's never does.
-#[derive(Drop)]
 pub struct CompareTo {
     operator: CompareOperator,
     constant: Scalar,
     asked: u64,
+}
+
+impl Drop for CompareTo {
+    fn drop(self) {
+        let CompareTo {
+            operator: _operator,
+            constant: _constant,
+            asked: _asked,
+        } = self;
+    }
 }
 
 impl Model for CompareTo {

@@ -8,8 +8,6 @@ mod compare_to;
 mod like;
 mod like_to;
 mod predicate;
-#[cfg(test)]
-mod tests;
 
 pub use between_to::BetweenTo;
 pub use compare_to::CompareTo;

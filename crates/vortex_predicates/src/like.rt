@@ -14,9 +14,14 @@ use vortex_types::Text;
 
 /// A pattern of `like`: `%` stands for any characters or none, `_` for any one, a backslash for the character behind it,
 /// or for itself at the end, and every other character for itself. Case counts. Contracts see its text.
-#[derive(Drop)]
 pub struct LikePattern {
     text: Text,
+}
+
+impl Drop for LikePattern {
+    fn drop(self) {
+        let LikePattern { text: _text } = self;
+    }
 }
 
 impl Model for LikePattern {

@@ -7,10 +7,18 @@ use std::marker::Model;
 use vortex_types::ValueRef;
 
 /// The test whether a text matches a pattern. A value that is no text never does.
-#[derive(Drop)]
 pub struct LikeTo {
     pattern: LikePattern,
     asked: u64,
+}
+
+impl Drop for LikeTo {
+    fn drop(self) {
+        let LikeTo {
+            pattern: _pattern,
+            asked: _asked,
+        } = self;
+    }
 }
 
 impl Model for LikeTo {

@@ -1,5 +1,5 @@
 -- Numbers as columns, and that the pieces of numbers fit their descriptions.
-use Rattle.std.proofs.Common.{◌≡◌, ◌<◌, ◌*◌, ◌^◌, ◌∙◌, ap, refl, arith, pos, ℕ, zero, suc, List, [], ◌∷◌, length, map, take, drop, get_or, Some, IsTrue}
+use Rattle.std.proofs.Common.{◌≡◌, ◌<◌, ◌*◌, ◌^◌, ◌∙◌, All, ap, refl, subst, sym, arith, pos, ℕ, zero, suc, List, [], ◌∷◌, length, map, take, drop, get_or, Some, IsTrue}
 use Rattle.std.specs.Prelude.{option_map}
 use Rattle.std.specs.List.{AllByRecursion, AllZip, list_all, range_with_len}
 use Rattle.std.specs.Int.{div_ceil}
@@ -10,6 +10,8 @@ use mir.Syntax.{w64}
 use Rattle.vortex_types.specs.declared.scalar.Value.TheVariants.{Int}
 use Rattle.vortex_types.specs.declared.column.ColumnDesc.{ColumnDesc}
 use Rattle.vortex_types.specs.Row.{Column, fits_type}
+use Rattle.std.proofs.lemmas.List.Elements.{All-cons, All-head, All-nil, All-tail}
+use Rattle.vortex_io.specs.declared.order.Order.{Order}
 use Rattle.vortex_io.specs.Memory.{MemoryState}
 use Rattle.vortex_table.specs.declared.chunk.Chunk.{Chunk}
 use Rattle.vortex_table.specs.declared.describe.PartitionDesc.{PartitionDesc}
@@ -20,7 +22,7 @@ use Rattle.vortex_table.specs.Given.{contents_of}
 use Rattle.vortex_table.specs.State.{IsCleared}
 use Rattle.vortex_table.specs.Table.{Content, FitsChunk, FitsPartition}
 use Rattle.vortex_query.specs.Numbered.{NumberedColumn, numbered}
-use Rattle.vortex_query.specs.Spelled.{cut, spelled, chunks_of, numbers_column, partition_of, piece, pieces, split_of}
+use Rattle.vortex_query.specs.Spelled.{IsFresh, cut, spelled, chunks_of, numbers_column, partition_of, piece, pieces, split_of}
 
 -- numbers that are read as rows of a column without nulls
 pub read_numbers : (numbers : List ℕ) → map (λ v. Some v) (map (λ n. Int n) (map (λ x. pos x) numbers)) ≡ map (λ n. Some (Int (pos n))) numbers
@@ -80,13 +82,24 @@ fits_cut size n numbers h =
 -- ---- sources
 
 -- a source that gave up what was outstanding has its content
-pub cleared_contents : (old new : List (MemoryState Chunk)) → AllZip (IsCleared (λ (s : MemoryState Chunk). s.outstanding) (λ (s : MemoryState Chunk). Some s.chunks) (λ (s : MemoryState Chunk). Some s.journal) (λ (s : MemoryState Chunk). s.faults)) old new → contents_of new ≡ contents_of old
+pub cleared_contents : (old new : List (MemoryState Chunk)) → AllZip (IsCleared (λ (s : MemoryState Chunk). s.outstanding) (λ (s : MemoryState Chunk). Some s.chunks) (λ (s : MemoryState Chunk). Some s.journal) (λ (s : MemoryState Chunk). s.faults) (λ (s t : MemoryState Chunk). t ≡ record s { outstanding = [] })) old new → contents_of new ≡ contents_of old
 cleared_contents [] [] z = refl
 cleared_contents [] (y ∷ ys) z = absurd z
 cleared_contents (x ∷ xs) [] z = absurd z
 cleared_contents (x ∷ xs) (y ∷ ys) z =
     let same : y.chunks ≡ x.chunks = cc z.0.chunks in
     ap (λ chunks. content_of chunks ∷ contents_of ys) same ∙ ap (λ rest. content_of x.chunks ∷ rest) (cleared_contents xs ys z.1)
+
+-- and is as fresh as it was
+fresh_one : (order : Order) (old new : MemoryState Chunk) → new ≡ record old { outstanding = [] } → IsFresh order old → IsFresh order new
+fresh_one order old new same fresh = subst (IsFresh order) (sym same) (record { arrive = fresh.arrive; idle = refl; journal = fresh.journal; faults = fresh.faults })
+
+pub cleared_fresh : (order : Order) (old new : List (MemoryState Chunk)) → AllZip (IsCleared (λ (s : MemoryState Chunk). s.outstanding) (λ (s : MemoryState Chunk). Some s.chunks) (λ (s : MemoryState Chunk). Some s.journal) (λ (s : MemoryState Chunk). s.faults) (λ (s t : MemoryState Chunk). t ≡ record s { outstanding = [] })) old new
+    → All (IsFresh order) old → All (IsFresh order) new
+cleared_fresh order [] [] z fresh = All-nil (IsFresh order)
+cleared_fresh order [] (y ∷ ys) z fresh = absurd z
+cleared_fresh order (x ∷ xs) [] z fresh = absurd z
+cleared_fresh order (x ∷ xs) (y ∷ ys) z fresh = All-cons (IsFresh order) y ys (fresh_one order x y z.0.stated (All-head (IsFresh order) x xs fresh)) (cleared_fresh order xs ys z.1 (All-tail (IsFresh order) x xs fresh))
 
 -- ---- the table
 

@@ -12,7 +12,7 @@ use Rattle.csv.specs.Reading.{default_config, records, strip_bom}
 use Rattle.serde_json.specs.Data.{Data}
 use Rattle.serde_json.specs.Find.{as_str, get}
 use Rattle.serde_json.specs.Read.{read}
-use Rattle.vortex_compute.specs.declared.compare.CompareOperator.{CompareOperator}
+use Rattle.vortex_buffer.specs.declared.compare_operator.CompareOperator.{CompareOperator}
 use Rattle.vortex_types.specs.declared.filter.Filter.{Filter, the_lemmas}
 use Rattle.vortex_table.specs.declared.scan.request.Projection.TheVariants as projection
 use Rattle.vortex_table.specs.declared.scan.request.ScanRequest.{ScanRequest}

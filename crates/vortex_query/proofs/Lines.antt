@@ -1,5 +1,5 @@
 -- The lines of numbers.
-use Rattle.std.proofs.Common.{◌≡◌, ◌<◌, ◌+◌, ◌++◌, ◌∙◌, ap, sym, refl, arith, add-one, ℕ, zero, suc, pos, List, [], ◌∷◌, length, map, take, get_or, Some, append_assoc}
+use Rattle.std.proofs.Common.{◌≡◌, ◌<◌, ◌+◌, ◌++◌, ◌∙◌, ap, sym, refl, arith, add-one, ℕ, zero, suc, List, [], ◌∷◌, length, map, take, get_or, append_assoc}
 use Rattle.std.specs.Prelude.{decimal, flat_map, All, Option}
 use Rattle.std.specs.List.{range_with_len}
 use Rattle.std.proofs.lemmas.List.{append-nil, flat_map_more, map_more}
@@ -7,7 +7,6 @@ use Rattle.std.proofs.lemmas.Grind.{flat_map-append}
 use Rattle.csv.specs.Writing.{default_writer, row_text}
 use Rattle.vortex_types.specs.declared.types.DType.{DType}
 use Rattle.vortex_types.specs.declared.scalar.Value.{Value}
-use Rattle.vortex_types.specs.declared.scalar.Value.TheVariants.{Int}
 use Rattle.vortex_types.specs.declared.column.ColumnDesc.{ColumnDesc}
 use Rattle.vortex_array.specs.declared.arrays.Array.{Array}
 use Rattle.vortex_array.specs.Batch.{HasRows}
@@ -49,21 +48,20 @@ one_header [] p d rows e all = absurd (cc e)
 one_header (c ∷ []) p d rows e all = rw all refl
 one_header (c ∷ b ∷ rest) p d rows e all = absurd (cc e)
 
--- the one column is of that type
-pub first_is_u64 : (columns : List ColumnDesc) (d : ColumnDesc) → IsOneU64Column columns → (get_or columns 0 d).dtype ≡ u64_type
-first_is_u64 [] d e = absurd (cc e)
-first_is_u64 (c ∷ []) d e = cc e
-first_is_u64 (c ∷ b ∷ rest) d e = absurd (cc e)
-
--- more rows are more lines
-pub more_rows : (columns : List ColumnDesc) (p : Projection) (d : ColumnDesc) (rows more : List Row) → IsOneU64Column columns → p ≡ projection.All
+more_under : (columns : List ColumnDesc) (p : Projection) (d : ColumnDesc) (rows more : List Row) → IsOneU64Column columns → p ≡ projection.All
     → text columns p (rows ++ more) ≡ text columns p rows ++ flat_map (line_text columns) more
-more_rows columns p d rows more e all =
+more_under columns p d rows more e all =
     let header : List ℕ = row_text default_writer (header_cell (get_or columns 0 d) ∷ []) in
     one_header columns p d (rows ++ more) e all
     ∙ ap (λ lines. header ++ lines) (flat_map-append (line_text columns) rows more)
     ∙ sym (append_assoc header (flat_map (line_text columns) rows) (flat_map (line_text columns) more))
     ∙ ap (λ t. t ++ flat_map (line_text columns) more) (sym (one_header columns p d rows e all))
+
+-- more rows are more lines
+pub more_rows : (columns : List ColumnDesc) (p : Projection) (rows more : List Row) → IsOneU64Column columns → p ≡ projection.All
+    → text columns p (rows ++ more) ≡ text columns p rows ++ flat_map (line_text columns) more
+more_rows [] p rows more e all = absurd (cc e)
+more_rows (c ∷ rest) p rows more e all = more_under (c ∷ rest) p c rows more e all
 
 -- a function of the number before, over numbers that begin one later
 shifted : {Y : Type 0} (f g : ℕ → Y) → ((i : ℕ) → f (suc i) ≡ g i) → (n m : ℕ) → map f (range_with_len (n + 1) m) ≡ map g (range_with_len n m)

@@ -28,6 +28,10 @@ rows_numbers (fields ∷ rest) = option_and_then (λ n. preceded (n ∷ []) (row
 abbrev pub few : List ℕ → Option (List ℕ)
 few numbers = if nat_le (length numbers) 65536 then Some numbers else None
 
+-- the numbers of the rows, where each spells one and they are few
+abbrev pub few_numbers : List (List (List ℕ)) → Option (List ℕ)
+few_numbers rows = option_and_then few (rows_numbers rows)
+
 -- the numbers under a name, where they are few
 abbrev pub under_name : List ℕ → Option (List ℕ) → Option NumberedColumn
 under_name name numbers = option_map (λ ns. record { name = name; numbers = ns }) (option_and_then few numbers)
@@ -41,8 +45,19 @@ column_in (header ∷ rows) = option_and_then (λ name. under_name name (rows_nu
 abbrev pub numbered : List ℕ → Option NumberedColumn
 numbered bytes = column_in (records default_config (strip_bom bytes))
 
--- bytes that were read as far as some rows: they spell these numbers under this name, and then what the rows that are left spell
-pub record Going {R : Type 0} (rem : R → Option (List ℕ)) (reader : Reader R) (bytes name numbers : List ℕ) : Type 0 where
-  pub rows : List (List (List ℕ))
-  pub left : Left rem reader rows
-  pub spells : numbered bytes ≡ under_name name (preceded numbers (rows_numbers rows))
+-- rows were read as far as those that are left: they spell these numbers, and then what the rows that are left spell
+pub record Going {R : Type 0} (rem : R → Option (List ℕ)) (reader : Reader R) (rows : List (List (List ℕ))) (numbers : List ℕ) : Type 0 where
+  pub rest : List (List (List ℕ))
+  pub left : Left rem reader rest
+  pub spells : rows_numbers rows ≡ preceded numbers (rows_numbers rest)
+
+-- one number was read, or no row was left
+abbrev pub ReadsNumber : {R : Type 0} → (R → Option (List ℕ)) → Reader R → List (List (List ℕ)) → Option ℕ → Type 0
+ReadsNumber rem reader rows None = rows ≡ []
+ReadsNumber rem reader rows (Some n) = Going rem reader rows (n ∷ [])
+
+-- the name was read, under which stand the numbers of the rows that are left
+pub record ReadsName {R : Type 0} (rem : R → Option (List ℕ)) (reader : Reader R) (rows : List (List (List ℕ))) (name : List ℕ) : Type 0 where
+  pub rest : List (List (List ℕ))
+  pub left : Left rem reader rest
+  pub spells : column_in rows ≡ under_name name (rows_numbers rest)

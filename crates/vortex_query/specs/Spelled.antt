@@ -1,11 +1,13 @@
 -- The table that a text spells: its numbers are cut into partitions, and these into splits.
-use Rattle.std.specs.Prelude.{ℕ, ◌*◌, pos, List, [], ◌∷◌, length, map, take, drop, Option, Some, None, option_map}
+use Rattle.std.specs.Prelude.{◌≡◌, ℕ, ◌*◌, pos, List, [], ◌∷◌, length, map, take, drop, Option, Some, None, option_map}
 use Rattle.std.specs.Int.{div_ceil}
 use Rattle.std.specs.List.{range_with_len}
 use Rattle.vortex_types.specs.declared.scalar.Value.TheVariants.{Int}
 use Rattle.vortex_types.specs.declared.column.ColumnDesc.{ColumnDesc}
 use Rattle.vortex_types.specs.Row.{Column}
-use Rattle.vortex_io.specs.declared.memory.Order.TheVariants.{First}
+use Rattle.vortex_io.specs.declared.order.Arrive.TheVariants.{OnWait}
+use Rattle.vortex_io.specs.declared.order.Order.{Order}
+use Rattle.vortex_io.specs.declared.order.Order.TheVariants.{First}
 use Rattle.vortex_table.specs.declared.describe.PartitionDesc.{PartitionDesc}
 use Rattle.vortex_table.specs.declared.describe.SplitDesc.{SplitDesc}
 use Rattle.vortex_io.specs.Memory.{MemoryState}
@@ -27,6 +29,13 @@ pub record SpelledTable : Type 0 where
 -- what contracts see of a table
 abbrev pub table_seen : TableState (MemoryState Chunk) → SpelledTable
 table_seen table = record { columns = table.columns; partitions = table.partitions; contents = contents_of table.sources }
+
+-- a source of which nothing was asked yet, and that completes fetches in this order, when it is waited for
+pub record IsFresh (order : Order) (source : MemoryState Chunk) : Type 0 where
+  pub arrive : source.arrive ≡ OnWait order
+  pub idle : source.outstanding ≡ []
+  pub journal : source.journal ≡ []
+  pub faults : source.faults ≡ 0
 
 -- what holds where no option is given
 abbrev pub default_options : Options

@@ -103,6 +103,39 @@ fn write_array(alloc: Global, writer: &mut Writer<Vec<u8>>, array: &Array) -> Re
     write_copied(alloc, writer, array)
 }
 
+// Writes the header.
+fn write_header(
+    alloc: Global,
+    writer: &mut Writer<Vec<u8>>,
+    columns: &[ColumnDesc],
+) -> Result<(), AllocError>
+    requires columns { IsOneU64Column columns.now }
+    requires nothing { Holds (λ v. Some v.items) writer.old [] }
+    ensures { OnOk result (Holds (λ v. Some v.items) writer.new (text columns.now projections.All [])) }
+{
+    let cell = header_cell(alloc, &columns[0])?;
+    write_row(writer, &[cell.as_slice()])
+}
+
+// Writes a line for each row of the batches, behind the header.
+fn write_batches(
+    alloc: Global,
+    writer: &mut Writer<Vec<u8>>,
+    columns: &[ColumnDesc],
+    batches: &[Batch],
+) -> Result<(), AllocError>
+    requires columns { IsOneU64Column columns.now }
+    requires batches { All IsOneU64Batch batches.now }
+    requires header { Holds (λ v. Some v.items) writer.old (text columns.now projections.All []) }
+    ensures { OnOk result (Holds (λ v. Some v.items) writer.new (text columns.now projections.All (rows_of batches.now))) }
+{
+    let _ = columns;
+    for batch in batches {
+        write_array(alloc, writer, one_array(batch))?;
+    }
+    Ok(())
+}
+
 /// The text of the batches' rows: a header, and a line for each row, as `csv` writes them with its default settings. Each batch
 /// has a column of the one column's type. Its bytes are written at once, so it takes memory for all of them.
 pub fn rows_text(
@@ -118,10 +151,7 @@ pub fn rows_text(
 {
     let _ = projection;
     let mut writer = new_writer(alloc);
-    let cell = header_cell(alloc, &columns[0])?;
-    write_row(&mut writer, &[cell.as_slice()])?;
-    for batch in batches {
-        write_array(alloc, &mut writer, one_array(batch))?;
-    }
+    write_header(alloc, &mut writer, columns)?;
+    write_batches(alloc, &mut writer, columns, batches)?;
     Ok(Buffer::from_vec(finish(writer)?))
 }

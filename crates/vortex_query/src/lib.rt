@@ -17,6 +17,3 @@ pub use vortex_streams::{
     ByteSink, ByteSource, Failed, MemoryInput, MemoryOutput, PlainInput, PlainOutput, ReadError,
     StdErrors, StdInput, StdOutput, read_all, write_all,
 };
-
-#[cfg(test)]
-mod tests;

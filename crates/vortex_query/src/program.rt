@@ -1,5 +1,5 @@
 // The program over any streams.
-ghost use Rattle.std.specs.Prelude.{◌≡◌, ◌≢◌, None, Some, Ok, Err, IfOk, IfErr, OnOk, IfSome, IsSome, IsErrOf, map, option_map, if◌then◌else◌, ◌∷◌, []};
+ghost use Rattle.std.specs.Prelude.{◌≡◌, ◌≢◌, All, None, Some, Ok, Err, IfOk, IfErr, OnOk, IfSome, IsSome, IsErrOf, map, option_map, if◌then◌else◌, ◌∷◌, []};
 ghost use Rattle.std.specs.Io.KnownBytes.{Appends, IsAtEnd};
 ghost use Rattle.std.specs.List.{AllZip};
 ghost use Rattle.vortex_query.specs.Query.{Answered, Ends, IsOneOf, Says, Shows, asked_for, for_request, line_of, outcome, request_word as word_in, table_in};
@@ -10,6 +10,7 @@ ghost use Rattle.vortex_streams.specs.Faults.{Faulted};
 ghost use Rattle.vortex_streams.specs.Known.{AppendsFront};
 ghost use Rattle.vortex_table.specs.Answers.{Answers};
 ghost use Rattle.vortex_table.specs.Given.{contents_of, given, question};
+ghost use Rattle.vortex_table.specs.State.{ArrivesInOrder};
 ghost use Rattle.vortex_table.specs.Table.{FitsPartition};
 ghost use Rattle.vortex_table.specs.Valid.{first_unknown};
 
@@ -61,6 +62,7 @@ fn table_from<I: ByteSource>(
 ) -> Result<Table<MemorySource<Chunk>>, Refusal>
     ensures ok { IfOk result (λ table. IfSome (I.left input.old) (λ bytes. table_in bytes ≡ Some (table_seen table))) }
     ensures spelled { IfOk result (λ table. IsSpelledTable (table_seen table)) }
+    ensures arrives { IfOk result (λ table. All ArrivesInOrder table.sources) }
     ensures fits { IfOk result (λ table. AllZip FitsPartition table.partitions (contents_of table.sources)) }
     ensures end { OnOk result (IsAtEnd (I.left input.new)) }
     ensures err { IfErr result (λ refusal. RefusesInput (I.left input.old) (I.faults input.old) (I.faults input.new) refusal) }
@@ -86,6 +88,7 @@ fn batches_of(
 ) -> Result<Vec<Batch>, Refusal>
     requires request { IsSpelledRequest request.now }
     requires table { IsSpelledTable (table_seen table.old) }
+    requires arrives { All ArrivesInOrder table.old.sources }
     requires fits { AllZip FitsPartition table.old.partitions (contents_of table.old.sources) }
     ensures answers { IfOk result (λ batches. Answers (question table.old request.now) (map given batches.items)) }
     ensures known { OnOk result (first_unknown table.old.columns request.now ≡ None) }
@@ -95,9 +98,11 @@ fn batches_of(
     let steps = table.enough_steps();
     match scan_table(alloc, table, request, steps) {
         Ok(batches) => Ok(batches),
-        Err(ScanError::InvalidRequest { .. }) => Err(Refusal::UnknownColumn),
-        Err(ScanError::OutOfMemory) => Err(Refusal::OutOfMemory),
-        Err(ScanError::NotBuilt) => unreachable!(),
+        Err(why) => match &why {
+            ScanError::InvalidRequest { .. } => Err(Refusal::UnknownColumn),
+            ScanError::OutOfMemory => Err(Refusal::OutOfMemory),
+            ScanError::NotBuilt => unreachable!(),
+        },
     }
 }
 
@@ -109,6 +114,7 @@ fn text_for(
 ) -> Result<Buffer<u8>, Refusal>
     requires request { IsSpelledRequest request.now }
     requires table { IsSpelledTable (table_seen table.old) }
+    requires arrives { All ArrivesInOrder table.old.sources }
     requires fits { AllZip FitsPartition table.old.partitions (contents_of table.old.sources) }
     ensures shows { IfOk result (λ text. Shows (record { request = request.now; table = table_seen table.old }) text) }
     ensures known { OnOk result (first_unknown table.old.columns request.now ≡ None) }

@@ -1,9 +1,10 @@
 // Tables in text.
-ghost use Rattle.std.specs.Prelude.{◌≡◌, ◌<◌, All, IfOk, IsErrOf, OnOk, Some, None, map};
+ghost use Rattle.std.specs.Prelude.{◌≡◌, ◌<◌, ◌∷◌, [], All, IfOk, IsErrOf, OnOk, Some, None, map};
 ghost use Rattle.std.specs.List.{AllZip};
-ghost use Rattle.vortex_io.specs.declared.memory.Arrive.TheVariants.{OnWait};
-ghost use Rattle.vortex_query.specs.Spelled.{chunks_of, default_options, partition_of, pieces as pieces_of, spelled, table_seen};
+ghost use Rattle.vortex_io.specs.declared.order.Order.TheVariants.{First};
+ghost use Rattle.vortex_query.specs.Spelled.{IsFresh, chunks_of, default_options, partition_of, pieces as pieces_of, spelled, table_seen};
 ghost use Rattle.vortex_query.specs.declared.table_text.TableTextError.TheVariants.{NotBuilt};
+ghost use Rattle.vortex_table.specs.Built.{u64_type};
 ghost use Rattle.vortex_table.specs.Given.{contents_of};
 ghost use Rattle.vortex_table.specs.Table.{FitsPartition};
 
@@ -17,7 +18,7 @@ use cut::{NUMBER_TYPE, partitions, pieces, sources};
 use numbered::{NamedNumbers, numbered};
 use std::alloc::{AllocError, AllocFailed, Global};
 use thiserror::Error;
-use vortex_array::ColumnDesc;
+use vortex_array::{ColumnDesc, Name};
 use vortex_io::MemorySource;
 use vortex_table::{Chunk, PartitionDesc, Table};
 
@@ -58,20 +59,17 @@ struct Parts {
     sources: Vec<MemorySource<Chunk>>,
 }
 
-// The numbers in partitions of so many rows and splits of so many, and a source for each partition.
-fn parts_of(
-    alloc: Global,
-    numbers: &[u64],
-    partition_rows: usize,
-    split_rows: usize,
-) -> Result<Parts, AllocError>
-    requires partition_rows { 0 < partition_rows }
-    requires split_rows { 0 < split_rows }
-    ensures partitions { IfOk result (λ parts. parts.partitions.items ≡ map (partition_of split_rows) (pieces_of partition_rows numbers.now)) }
-    ensures contents { IfOk result (λ parts. contents_of parts.sources.items ≡ map (chunks_of split_rows) (pieces_of partition_rows numbers.now)) }
-    ensures fits { OnOk result (AllZip FitsPartition (map (partition_of split_rows) (pieces_of partition_rows numbers.now)) (map (chunks_of split_rows) (pieces_of partition_rows numbers.now))) }
+// The numbers in partitions and splits as the options say, and a source for each partition.
+fn parts_of(alloc: Global, numbers: &[u64], options: &Options) -> Result<Parts, AllocError>
+    requires partition_rows { 0 < options.now.partition_rows }
+    requires split_rows { 0 < options.now.split_rows }
+    ensures partitions { IfOk result (λ parts. parts.partitions.items ≡ map (partition_of options.now.split_rows) (pieces_of options.now.partition_rows numbers.now)) }
+    ensures contents { IfOk result (λ parts. contents_of parts.sources.items ≡ map (chunks_of options.now.split_rows) (pieces_of options.now.partition_rows numbers.now)) }
+    ensures fresh { IfOk result (λ parts. All (IsFresh First) parts.sources.items) }
+    ensures fits { OnOk result (AllZip FitsPartition (map (partition_of options.now.split_rows) (pieces_of options.now.partition_rows numbers.now)) (map (chunks_of options.now.split_rows) (pieces_of options.now.partition_rows numbers.now))) }
 {
-    let parts = pieces(alloc, numbers, partition_rows)?;
+    let split_rows = options.split_rows as usize;
+    let parts = pieces(alloc, numbers, options.partition_rows as usize)?;
     let partitions = partitions(alloc, &parts, split_rows)?;
     let sources = sources(alloc, &parts, split_rows)?;
     Ok(Parts {
@@ -80,10 +78,22 @@ fn parts_of(
     })
 }
 
+// One column of numbers.
+fn one_column(alloc: Global, name: Name) -> Result<Vec<ColumnDesc>, AllocError>
+    ensures { IfOk result (λ columns. columns.items ≡ record { name = name; dtype = u64_type } ∷ []) }
+{
+    let mut columns = Vec::new(alloc);
+    columns.push(ColumnDesc {
+        name,
+        dtype: NUMBER_TYPE,
+    })?;
+    Ok(columns)
+}
+
 /// The table that a text spells, of one source for each partition. The text is CSV without headers: a first record of one cell
 /// `name:u64`, and at most 65,536 further ones of one number each. `NotBuilt` comes exactly where it is not. Rows are cut into
 /// partitions of 65,536 and these into splits of 8,192, of which the last may have fewer; no rows make no partition. The options
-/// have their defaults.
+/// have their defaults. Of no source anything was asked yet.
 pub fn table_of(
     alloc: Global,
     bytes: &[u8],
@@ -92,24 +102,15 @@ pub fn table_of(
     requires { options.now ≡ default_options }
     ensures ok { IfOk result (λ table. spelled bytes.now ≡ Some (table_seen table)) }
     ensures fits { IfOk result (λ table. AllZip FitsPartition table.partitions (contents_of table.sources)) }
-    ensures arrive { IfOk result (λ table. All (λ source. source.arrive ≡ OnWait options.now.arrive) table.sources) }
+    ensures fresh { IfOk result (λ table. All (IsFresh options.now.arrive) table.sources) }
     ensures not_built { IsErrOf result NotBuilt → spelled bytes.now ≡ None }
 {
     let NamedNumbers { name, numbers } = numbered(alloc, bytes)?;
     let Parts {
         partitions,
         sources,
-    } = parts_of(
-        alloc,
-        numbers.as_slice(),
-        options.partition_rows as usize,
-        options.split_rows as usize,
-    )?;
-    let mut columns = Vec::new(alloc);
-    columns.push(ColumnDesc {
-        name,
-        dtype: NUMBER_TYPE,
-    })?;
+    } = parts_of(alloc, &numbers, options)?;
+    let columns = one_column(alloc, name)?;
     match Table::try_new(alloc, columns, partitions, sources) {
         Ok(table) => Ok(table),
         // The description fits, so only memory can be wanting.

@@ -1,7 +1,6 @@
-use Rattle.std.proofs.Common.{ℕ, zero, suc, ◌+◌, ◌<◌, ◌≡◌, cond, take, get_or, length-take, Bool, true, false, List, [], ◌∷◌, ◌++◌, length, map, replicate, refl, sym, ap, ◌∙◌, arith}
+use Rattle.std.proofs.Common.{ℕ, zero, suc, ◌≡◌, cond, Bool, true, false, List, [], ◌∷◌, ◌++◌, length, map, replicate, refl, sym, ap, arith}
 use Rattle.std.specs.List.{zip, count_by}
 use Rattle.std.specs.Simd.Lanes.{zip2}
-use Rattle.std.proofs.lemmas.List.{take_more}
 use Rattle.std.proofs.lemmas.List.Sums.{sum_by-cons}
 use Rattle.vortex_rows.specs.Kept.{kept_by}
 
@@ -17,11 +16,6 @@ pub kept_by-none : {X : Type 0} (n : ℕ) (xs : List X) → kept_by (replicate n
 kept_by-none zero xs = refl
 kept_by-none (suc n) [] = refl
 kept_by-none (suc n) (x ∷ xs) = kept_by-none n xs
-
--- what is kept of no item
-pub kept_by-nil : {X : Type 0} (bits : List Bool) → kept_by {X = X} bits [] ≡ []
-kept_by-nil [] = refl
-kept_by-nil (b ∷ bits) = refl
 
 -- what is kept of two lists in a row
 pub kept_by-append : {X : Type 0} (as₁ bs₁ : List Bool) (xs ys : List X) → length as₁ ≡ length xs → kept_by (as₁ ++ bs₁) (xs ++ ys) ≡ kept_by as₁ xs ++ kept_by bs₁ ys
@@ -70,16 +64,3 @@ pub zip-as-zip2 : {X Y : Type 0} (xs : List X) (ys : List Y) → zip xs ys ≡ z
 zip-as-zip2 [] ys = refl
 zip-as-zip2 (x ∷ xs) [] = refl
 zip-as-zip2 (x ∷ xs) (y ∷ ys) = ap (λ zs. (x, y) ∷ zs) (zip-as-zip2 xs ys)
-
--- what is kept of pairs is what is kept of each side, paired
-pub kept_by-zip : {X Y : Type 0} (bits : List Bool) (xs : List X) (ys : List Y) → kept_by bits (zip xs ys) ≡ zip (kept_by bits xs) (kept_by bits ys)
-kept_by-zip bits xs ys = ap (kept_by bits) (zip-as-zip2 xs ys) ∙ kept_by-zip2 (λ x y. (x, y)) bits xs ys ∙ sym (zip-as-zip2 (kept_by bits xs) (kept_by bits ys))
-
--- one more item, kept where its bit is set
-pub keep_more : {X : Type 0} (bits : List Bool) (xs : List X) (i : ℕ) (bit : Bool) (x : X) → i < length xs → length bits ≡ length xs → bit ≡ get_or bits i false → x ≡ get_or xs i x → kept_by (take (i + 1) bits) (take (i + 1) xs) ≡ kept_by (take i bits) (take i xs) ++ cond bit (x ∷ []) []
-keep_more bits xs i bit x within same set read =
-    let inside : i < length bits = omega (arith, same, within) in
-    let front : length (take i bits) ≡ length (take i xs) = omega (arith, length-take i bits, length-take i xs, same) in
-    ap (λ bs. kept_by bs (take (i + 1) xs)) (take_more bits i false inside ∙ ap (λ b. take i bits ++ b ∷ []) (sym set))
-    ∙ ap (kept_by (take i bits ++ bit ∷ [])) (take_more xs i x within ∙ ap (λ y. take i xs ++ y ∷ []) (sym read))
-    ∙ kept_by-append (take i bits) (bit ∷ []) (take i xs) (x ∷ []) front

@@ -139,12 +139,6 @@ pub record Walk (set : ℕ) (group : List Bool) (rest at packed count : ℕ) : T
   pub spelled : packed + 2 ^ count * mask_l (kept_in rest (drop at group)) ≡ mask_l (kept_in set group)
   pub counted : count + length (kept_in rest (drop at group)) ≡ length (kept_in set group)
 
--- nothing is packed at first
-pub walk_start : (set : ℕ) (group : List Bool) → set < 2 ^ length group → Walk set group set 0 0 0
-walk_start set group small =
-    let whole : length group - 0 ≡ length group = omega arith in
-    record { within = omega arith; small = rw whole small; spelled = omega arith; counted = omega arith }
-
 -- all is packed where no set bit is left
 pub walk_end : (set : ℕ) (group : List Bool) (rest at packed count : ℕ) → rest ≡ 0 → Walk set group rest at packed count → (packed ≡ mask_l (kept_in set group)) × (count ≡ length (kept_in set group))
 walk_end set group rest at packed count none w =

@@ -1,9 +1,8 @@
 use Rattle.std.proofs.Common.{ℕ, zero, suc, ◌-◌, ◌≤◌, ◌≡◌, List, [], ◌∷◌, length, take, drop, map, refl, sym, ap, ◌∙◌, arith, length-take, length-drop}
 use Rattle.std.specs.Prelude.{slice_range}
-use Rattle.std.specs.List.{zip}
 use Rattle.std.specs.Simd.Lanes.{zip2}
 use Rattle.std.proofs.lemmas.List.{take-map, drop-map}
-use Rattle.vortex_rows.proofs.Kept.{zip2-nil, zip-as-zip2}
+use Rattle.vortex_rows.proofs.Kept.{zip2-nil}
 
 -- how long a part is
 pub length-slice : {X : Type 0} (xs : List X) (i j : ℕ) → i ≤ j → j ≤ length xs → length (slice_range xs i j) ≡ j - i
@@ -30,8 +29,3 @@ drop-zip2 f (suc n) (x ∷ xs) (y ∷ ys) = drop-zip2 f n xs ys
 -- a part of two lists joined item by item is the parts joined
 pub slice-zip2 : {X Y Z : Type 0} (f : X → Y → Z) (xs : List X) (ys : List Y) (i j : ℕ) → slice_range (zip2 f xs ys) i j ≡ zip2 f (slice_range xs i j) (slice_range ys i j)
 slice-zip2 f xs ys i j = ap (take (j - i)) (drop-zip2 f i xs ys) ∙ take-zip2 f (j - i) (drop i xs) (drop i ys)
-
--- a part of pairs is the parts paired
-pub slice-zip : {X Y : Type 0} (xs : List X) (ys : List Y) (i j : ℕ) → slice_range (zip xs ys) i j ≡ zip (slice_range xs i j) (slice_range ys i j)
-slice-zip xs ys i j =
-    ap (λ zs. slice_range zs i j) (zip-as-zip2 xs ys) ∙ slice-zip2 (λ x y. (x, y)) xs ys i j ∙ sym (zip-as-zip2 (slice_range xs i j) (slice_range ys i j))

@@ -1,11 +1,10 @@
 use Rattle.std.proofs.Common.{ℕ, zero, suc, ◌+◌, ◌<◌, ◌≡◌, Bool, true, false, cond, List, [], ◌∷◌, ◌++◌, length, get_or, take, map, refl, sym, ap, ◌∙◌, arith}
-use Rattle.std.specs.List.{All, zip}
+use Rattle.std.specs.List.{All}
 use Rattle.std.specs.Simd.Lanes.{zip2}
 use Rattle.std.proofs.lemmas.List.{take_more, get_or_default, length-map, map-append}
 use Rattle.std.proofs.lemmas.Slice.Zip.{all_zipped_more}
 use Rattle.std.proofs.lemmas.Simd.{length-zip2, get_or-zip2}
-use Rattle.vortex_rows.specs.Taken.{TakenAt, SetPlacesBelow, taken_or}
-use Rattle.vortex_rows.proofs.Kept.{zip-as-zip2}
+use Rattle.vortex_rows.specs.Taken.{TakenAt, taken_or}
 
 -- an item of a map, past the end too
 get_or-map_any : {X Y : Type 0} (f : X → Y) (xs : List X) (i : ℕ) (d : X) → get_or (map f xs) i (f d) ≡ f (get_or xs i d)
@@ -25,12 +24,6 @@ place_below f n places k p within inside is =
     let long : k < length (map f places) = rw length-map inside in
     rw (number_at f places k p inside is) (within k 0 long)
 
--- the number of a place whose bit is set is below what those of all such places are
-pub set_place_below : {P : Type 0} (f : P → ℕ) (n : ℕ) (places : List P) (set : List Bool) (k : ℕ) (p : P) → SetPlacesBelow n (map f places) set → k < length places → p ≡ get_or places k p → get_or set k false ≡ true → f p < n
-set_place_below f n places set k p within inside is valid =
-    let long : k < length (map f places) = rw length-map inside in
-    rw (number_at f places k p inside is) (within k long valid)
-
 -- one more place
 pub taken_more : {X : Type 0} (items : List X) (places : List ℕ) (n : ℕ) (taken : List X) (x : X) → n < length places → TakenAt items (take n places) taken → x ≡ get_or items (get_or places n 0) x → TakenAt items (take (n + 1) places) (taken ++ x ∷ [])
 taken_more items places n taken x within so_far here =
@@ -44,13 +37,6 @@ get_or-zip2_any f (x ∷ xs) [] i d e same = absurd (omega arith)
 get_or-zip2_any f (x ∷ xs) (y ∷ ys) zero d e same = refl
 get_or-zip2_any f (x ∷ xs) (y ∷ ys) (suc i) d e same = get_or-zip2_any f xs ys i d e (omega arith)
 
--- as many are taken as there are places
-pub length-taken : {X : Type 0} (items : List X) (places : List ℕ) (taken : List X) → TakenAt items places taken → length taken ≡ length places
-length-taken items [] [] h = refl
-length-taken items [] (x ∷ taken) h = absurd h
-length-taken items (i ∷ places) [] h = absurd h
-length-taken items (i ∷ places) (x ∷ taken) h = ap suc (length-taken items places taken h.1)
-
 -- what is taken, as a map over the places
 pub taken_is_map : {X : Type 0} (d : X) (items : List X) (places : List ℕ) (taken : List X) → All (λ i. i < length items) places → TakenAt items places taken → taken ≡ map (λ i. get_or items i d) places
 taken_is_map d items [] [] within h = refl
@@ -60,43 +46,6 @@ taken_is_map d items (i ∷ places) (x ∷ taken) within h =
     let below : i < length items = within 0 0 (omega arith) in
     ap (λ y. y ∷ taken) (h.0 ∙ get_or_default items i x d below)
     ∙ ap (λ ys. get_or items i d ∷ ys) (taken_is_map d items places taken (λ k e m. within (suc k) e (omega arith)) h.1)
-
--- what is taken of a map is the map of what is taken
-pub taken-map : {X Y : Type 0} (f : X → Y) (items : List X) (places : List ℕ) (taken : List X) → TakenAt items places taken → TakenAt (map f items) places (map f taken)
-taken-map f items [] [] h = tt
-taken-map f items [] (x ∷ taken) h = absurd h
-taken-map f items (i ∷ places) [] h = absurd h
-taken-map f items (i ∷ places) (x ∷ taken) h = (ap f h.0 ∙ sym (get_or-map_any f items i x), taken-map f items places taken h.1)
-
--- a place within a list is one within its map
-below_mapped : {X Y : Type 0} (f : X → Y) (items : List X) (i : ℕ) → i < length items → i < length (map f items)
-below_mapped f items i below = rw length-map below
-
--- the map of what is taken, as a map over the places
-pub map_of_taken : {X Y : Type 0} (f : X → Y) (e : Y) (items : List X) (places : List ℕ) (taken : List X) → All (λ i. i < length items) places → TakenAt items places taken → map f taken ≡ map (λ i. get_or (map f items) i e) places
-map_of_taken f e items [] [] within h = refl
-map_of_taken f e items [] (x ∷ taken) within h = absurd h
-map_of_taken f e items (i ∷ places) [] within h = absurd h
-map_of_taken f e items (i ∷ places) (x ∷ taken) within h =
-    let below : i < length items = within 0 0 (omega arith) in
-    let mapped : i < length (map f items) = below_mapped f items i below in
-    ap (λ y. y ∷ map f taken) (ap f h.0 ∙ sym (get_or-map_any f items i x) ∙ get_or_default (map f items) i (f x) e mapped)
-    ∙ ap (λ ys. get_or (map f items) i e ∷ ys) (map_of_taken f e items places taken (λ k d m. within (suc k) d (omega arith)) h.1)
-
--- what is taken of two lists of one length, joined item by item, is what is taken of each, joined
-pub taken-zip2 : {X Y Z : Type 0} (f : X → Y → Z) (xs : List X) (ys : List Y) (places : List ℕ) (left : List X) (right : List Y) → length xs ≡ length ys → TakenAt xs places left → TakenAt ys places right → TakenAt (zip2 f xs ys) places (zip2 f left right)
-taken-zip2 f xs ys [] [] [] same h k = tt
-taken-zip2 f xs ys [] (x ∷ left) right same h k = absurd h
-taken-zip2 f xs ys [] [] (y ∷ right) same h k = absurd k
-taken-zip2 f xs ys (i ∷ places) [] right same h k = absurd h
-taken-zip2 f xs ys (i ∷ places) (x ∷ left) [] same h k = absurd k
-taken-zip2 f xs ys (i ∷ places) (x ∷ left) (y ∷ right) same h k =
-    (ap (λ z. f z y) h.0 ∙ ap (f (get_or xs i x)) k.0 ∙ sym (get_or-zip2_any f xs ys i x y same), taken-zip2 f xs ys places left right same h.1 k.1)
-
--- what is taken of pairs is what is taken of each side, paired
-pub taken-zip : {X Y : Type 0} (xs : List X) (ys : List Y) (places : List ℕ) (left : List X) (right : List Y) → length xs ≡ length ys → TakenAt xs places left → TakenAt ys places right → TakenAt (zip xs ys) places (zip left right)
-taken-zip xs ys places left right same h k =
-    rw (zip-as-zip2 xs ys, zip-as-zip2 left right) (taken-zip2 (λ x y. (x, y)) xs ys places left right same h k)
 
 -- the item at a place or the default, under a map
 map_where : {X Y : Type 0} (f : X → Y) (d : X) (items : List X) (i : ℕ) (b : Bool) → cond b (get_or (map f items) i (f d)) (f d) ≡ f (cond b (get_or items i d) d)

@@ -12,10 +12,18 @@ use std::marker::Model;
 use vortex_buffer::{AllocError, BitBuffer, Mask};
 
 /// Lists of bytes, one after another in one buffer. Contracts see the list of them.
-#[derive(Drop)]
 pub struct ByteLists {
     bytes: Vec<u8>,
     ends: Vec<usize>,
+}
+
+impl Drop for ByteLists {
+    fn drop(self) {
+        let ByteLists {
+            bytes: _bytes,
+            ends: _ends,
+        } = self;
+    }
 }
 
 impl Model for ByteLists {

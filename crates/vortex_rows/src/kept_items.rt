@@ -38,15 +38,29 @@ fn filter_by_bits<T: Copy>(
     requires same_length { length bits.now ≡ length items.now }
     ensures ok { IfOk result (λ kept. kept ≡ kept_by bits.now items.now) }
 {
-    let mut kept = Vec::with_capacity(alloc, bits.count())?;
     if items.is_empty() {
-        return Ok(Buffer::from_vec(kept));
+        return Ok(Buffer::from_vec(Vec::new(alloc)));
     }
     let mut room = Vec::from_elem(alloc, items[0], 64)?;
+    filter_over(alloc, items, bits, &mut room)
+}
+
+// The items whose bit is set, by groups of 64 that are packed in the room.
+fn filter_over<T: Copy>(
+    alloc: Global,
+    items: &[T],
+    bits: &BitBuffer,
+    room: &mut [T],
+) -> Result<Buffer<T>, AllocError>
+    requires same_length { length bits.now ≡ length items.now }
+    requires room { length room.old ≡ 64 }
+    ensures ok { IfOk result (λ kept. kept ≡ kept_by bits.now items.now) }
+{
+    let mut kept = Vec::with_capacity(alloc, bits.count())?;
     for k in 0..items.len().div_ceil(64) {
         let start = 64 * k;
         let end = start + (items.len() - start).min(64);
-        push_group(&mut kept, &items[start..end], bits.word(k), &mut room)?;
+        push_group(&mut kept, &items[start..end], bits.word(k), room)?;
     }
     Ok(Buffer::from_vec(kept))
 }

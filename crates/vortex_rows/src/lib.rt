@@ -21,6 +21,3 @@ pub use kept_bits::filter_bits;
 pub use kept_items::filter_items;
 pub use places::{Place, places_below, set_places_below};
 pub use set_bits::first_set;
-
-#[cfg(test)]
-mod tests;

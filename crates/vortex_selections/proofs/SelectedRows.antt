@@ -1,5 +1,5 @@
 -- Parts of rows under a validity.
-use Rattle.std.proofs.Common.{ℕ, ◌-◌, ◌≤◌, ◌≡◌, ◌==◌, Bool, List, length, map, refl, sym, ap, ◌∙◌, arith, Option, Some, None, eq-eqb}
+use Rattle.std.proofs.Common.{ℕ, ◌≤◌, ◌≡◌, ◌==◌, Bool, List, length, map, refl, sym, ap, ◌∙◌, arith, Option, Some, None, eq-eqb}
 use Rattle.std.specs.Prelude.{IsTrue, slice_range}
 use Rattle.std.proofs.lemmas.Bool.Decides.{Decides-eqb}
 use Rattle.vortex_types.specs.Row.{Column}
@@ -7,7 +7,7 @@ use Rattle.vortex_types.specs.declared.types.DType.{DType}
 use Rattle.vortex_types.specs.declared.types.Nullability.{Nullability}
 use Rattle.vortex_types.specs.declared.scalar.Value.{Value}
 use Rattle.vortex_rows.specs.Kept.{kept_by}
-use Rattle.vortex_rows.proofs.Slices.{length-slice, slice-map, slice-zip2}
+use Rattle.vortex_rows.proofs.Slices.{slice-map, slice-zip2}
 use Rattle.vortex_rows.proofs.Kept.{kept_by-map, kept_by-zip2, length-kept_by}
 use Rattle.vortex_columns.specs.Validities.{row_of, rows_under, is_as_long, nullability_of}
 use Rattle.vortex_selections.specs.Selected.{sliced, filtered}
@@ -47,15 +47,6 @@ sliced-nulls NonNullable i j = refl
 sliced-nulls AllValid i j = refl
 sliced-nulls AllInvalid i j = refl
 sliced-nulls (Bits bits) i j = refl
-
--- the validity of a part is as long as the part
-pub sliced-long : (v : Validity) (n i j k : ℕ) → IsTrue (is_as_long v n) → i ≤ j → j ≤ n → k ≡ j - i → IsTrue (is_as_long (sliced_validity i j v) k)
-sliced-long NonNullable n i j k e order within is = refl
-sliced-long AllValid n i j k e order within is = refl
-sliced-long AllInvalid n i j k e order within is = refl
-sliced-long (Bits bits) n i j k e order within is =
-    let inside : j ≤ length bits = omega (arith, within, bits-long bits n e) in
-    eq-eqb (length (slice_range bits i j)) k (length-slice bits i j order inside ∙ sym is)
 
 -- a part of a column is a part of its values and of its validity
 pub sliced-column : {X : Type 0} (t : Nullability → DType) (f : X → Value) (v : Validity) (xs : List X) (i j : ℕ)

@@ -13,6 +13,3 @@ mod validities;
 pub use constants::take_equal;
 pub use select::{Select, Take};
 pub use validities::{filter_validity, slice_validity, take_validity};
-
-#[cfg(test)]
-mod tests;

@@ -6,8 +6,6 @@ mod memory;
 mod plain;
 mod streams;
 mod system;
-#[cfg(test)]
-mod tests;
 mod whole;
 
 pub use memory::{MemoryInput, MemoryOutput};

@@ -7,12 +7,22 @@ use std::marker::Model;
 use vortex_buffer::Buffer;
 
 /// Bytes in memory, and the numbers of the reads that fail, from 0. Reads take no memory.
-#[derive(Drop)]
 pub struct MemoryInput {
     bytes: PlainInput,
     failing: Buffer<u64>,
     calls: u64,
     faults: u64,
+}
+
+impl Drop for MemoryInput {
+    fn drop(self) {
+        let MemoryInput {
+            bytes: _bytes,
+            failing: _failing,
+            calls: _calls,
+            faults: _faults,
+        } = self;
+    }
 }
 
 impl Model for MemoryInput {
@@ -70,13 +80,24 @@ impl ByteSource for MemoryInput {
 }
 
 /// Room for bytes in memory, and the numbers of the writes that fail, from 0. Writes take no memory.
-#[derive(Drop)]
 pub struct MemoryOutput {
     bytes: Vec<u8>,
     room: usize,
     failing: Buffer<u64>,
     calls: u64,
     faults: u64,
+}
+
+impl Drop for MemoryOutput {
+    fn drop(self) {
+        let MemoryOutput {
+            bytes: _bytes,
+            room: _room,
+            failing: _failing,
+            calls: _calls,
+            faults: _faults,
+        } = self;
+    }
 }
 
 impl Model for MemoryOutput {

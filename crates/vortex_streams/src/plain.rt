@@ -6,10 +6,18 @@ use std::marker::Model;
 use vortex_buffer::Buffer;
 
 /// Bytes in memory that are read without failures. Contracts see the bytes that are left.
-#[derive(Drop)]
 pub struct PlainInput {
     bytes: Buffer<u8>,
     at: usize,
+}
+
+impl Drop for PlainInput {
+    fn drop(self) {
+        let PlainInput {
+            bytes: _bytes,
+            at: _at,
+        } = self;
+    }
 }
 
 impl Model for PlainInput {
@@ -54,8 +62,13 @@ impl ByteSource for PlainInput {
 }
 
 /// An output that takes every piece whole, and keeps none.
-#[derive(Drop)]
 pub struct PlainOutput;
+
+impl Drop for PlainOutput {
+    fn drop(self) {
+        let PlainOutput = self;
+    }
+}
 
 impl PlainOutput {
     /// The output.

@@ -6,10 +6,18 @@ use std::io::{Read, Write};
 use std::marker::Model;
 
 /// A reader of the system whose failures are counted. Contracts see the count.
-#[derive(Drop)]
 pub struct StdInput<R> {
     reader: R,
     faults: u64,
+}
+
+impl<R: Drop> Drop for StdInput<R> {
+    fn drop(self) {
+        let StdInput {
+            reader: _reader,
+            faults: _faults,
+        } = self;
+    }
 }
 
 impl<R> Model for StdInput<R> {
@@ -53,10 +61,18 @@ impl<R: Read> ByteSource for StdInput<R> {
 }
 
 /// A writer of the system whose failures are counted. Contracts see the count. Each written piece is flushed.
-#[derive(Drop)]
 pub struct StdOutput<W> {
     writer: W,
     faults: u64,
+}
+
+impl<W: Drop> Drop for StdOutput<W> {
+    fn drop(self) {
+        let StdOutput {
+            writer: _writer,
+            faults: _faults,
+        } = self;
+    }
 }
 
 /// A writer of the system for the lines on errors.

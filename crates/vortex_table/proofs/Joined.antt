@@ -182,12 +182,6 @@ chosen_wide request table none =
     (each_more (λ n. test n ≡ false) (IsKnown table.columns) (λ n e. is_known (dtype_of table.columns n) e) listed
     (each_left (λ n. test n ≡ false) listed (filter_names request.filter) (none_found test (listed ++ filter_names request.filter) none))))
 
--- and so it has where all columns are asked for
-pub chosen_wide_all : (request : ScanRequest) (table : Decoded) → request.projection ≡ projection.All
-    → Each (λ x. length x.values ≡ length (projected_types table.columns request.projection)) (chosen request table)
-chosen_wide_all request table all =
-    as_wide request table (names_known table.columns request.projection (subst (λ p. Each (IsKnown table.columns) (projection_names p)) (sym all) tt))
-
 -- so with the question that a request asks
 pub chosen_full : ChosenRowsAreFull
 chosen_full columns partitions contents request none =

@@ -12,4 +12,5 @@ pub mod ReadBack
 pub mod SplitSteps
 pub mod OneColumn
 pub mod OwnCell
+pub mod Oldest
 pub mod OnePartition

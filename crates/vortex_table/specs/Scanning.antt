@@ -6,7 +6,8 @@ use Rattle.vortex_types.specs.declared.scalar.Value.TheVariants.{Int}
 use Rattle.vortex_array.specs.declared.arrays.Array.{Array}
 use Rattle.vortex_array.specs.declared.arrays.Array.TheVariants.{Primitive}
 use Rattle.vortex_io.specs.Memory.{MemoryState}
-use Rattle.vortex_io.specs.Source.{chunk_at}
+use Rattle.vortex_io.specs.Source.{Agrees, chunk_at}
+use Rattle.vortex_io.specs.declared.request.Completion.{Completion}
 use Rattle.vortex_io.specs.declared.request.Fetch.{Fetch}
 use Rattle.vortex_io.specs.declared.request.IoTarget.{IoTarget}
 use Rattle.vortex_io.specs.declared.request.JournalEntry.{JournalEntry}
@@ -88,6 +89,12 @@ pub record HasNumbers (chunks : List (List Chunk)) (splits : List SplitDesc) (nu
 -- a source that waited for its oldest fetch
 abbrev pub waited : MemoryState Chunk → MemoryState Chunk
 waited s = record s { outstanding = drop 1 s.outstanding; journal = s.journal ++ Waited ∷ [] }
+
+-- a wait completed the oldest fetch, with what the chunks have at its target
+pub record CompletesOldest (old new : MemoryState Chunk) (completion : Completion Chunk) : Type 0 where
+  pub oldest : Fetch
+  pub left : old.outstanding ≡ oldest ∷ new.outstanding
+  pub agrees : Agrees chunk_column old.chunks oldest.target completion.result
 
 -- a source that keeps its chunks and its count, and whose journal is only extended
 pub record IsExtended (old new : MemoryState Chunk) : Type 0 where

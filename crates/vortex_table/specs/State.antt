@@ -3,6 +3,8 @@ use Rattle.std.specs.Prelude.{◌≡◌, ℕ, ◌≤◌, List, [], ◌++◌, Opt
 use Rattle.vortex_types.specs.declared.column.ColumnDesc.{ColumnDesc}
 use Rattle.vortex_io.specs.Memory.{MemoryState}
 use Rattle.vortex_io.specs.Source.{Content}
+use Rattle.vortex_io.specs.declared.order.Arrive.TheVariants.{OnWait}
+use Rattle.vortex_io.specs.declared.order.Order.TheVariants.{First}
 use Rattle.vortex_io.specs.declared.request.Fetch.{Fetch}
 use Rattle.vortex_io.specs.declared.request.JournalEntry.{JournalEntry}
 use Rattle.vortex_table.specs.declared.describe.PartitionDesc.{PartitionDesc}
@@ -13,12 +15,17 @@ pub record TableState (S : Type 0) : Type 0 where
   pub partitions : List PartitionDesc
   pub sources : List S
 
--- a source that gave up what was outstanding, and nothing else
-pub record IsCleared {S C : Type 0} (outstanding : S → List Fetch) (content : S → Option (Content C)) (journal : S → Option (List JournalEntry)) (faults : S → ℕ) (old new : S) : Type 0 where
+-- a source that gave up what was outstanding, and nothing else but what it states of that call
+pub record IsCleared {S C : Type 0} (outstanding : S → List Fetch) (content : S → Option (Content C)) (journal : S → Option (List JournalEntry)) (faults : S → ℕ) (clears : S → S → Type 0) (old new : S) : Type 0 where
   pub idle : outstanding new ≡ []
   pub chunks : content new ≡ content old
   pub told : journal new ≡ journal old
   pub counted : faults old ≤ faults new
+  pub stated : clears old new
+
+-- a source in memory is completed oldest first, when it is waited for
+abbrev pub ArrivesInOrder : {C : Type 0} → MemoryState C → Type 0
+ArrivesInOrder source = source.arrive ≡ OnWait First
 
 -- a source in memory after a scan: nothing is outstanding, its chunks, its order and its count are as they were, its journal is only extended
 pub record Stands {C : Type 0} (old new : MemoryState C) : Type 0 where

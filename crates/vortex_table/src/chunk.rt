@@ -7,10 +7,17 @@ use vortex_array::{Array, DType};
 use vortex_io::Payload;
 
 /// One column's part of a split, as a source keeps it. It stands for a column.
-#[derive(Drop)]
 pub enum Chunk {
     /// The column as it is.
     Plain(Array),
+}
+
+impl Drop for Chunk {
+    fn drop(self) {
+        match self {
+            Chunk::Plain(_part) => {}
+        }
+    }
 }
 
 impl Chunk {

@@ -10,14 +10,27 @@ pub struct ChunkDesc {
 }
 
 /// The rows of a split, and one chunk for each column.
-#[derive(Drop)]
 pub struct SplitDesc {
     pub rows: u64,
     pub chunks: Items<ChunkDesc>,
 }
 
+impl Drop for SplitDesc {
+    fn drop(self) {
+        let SplitDesc {
+            rows: _rows,
+            chunks: _chunks,
+        } = self;
+    }
+}
+
 /// The splits of a partition.
-#[derive(Drop)]
 pub struct PartitionDesc {
     pub splits: Items<SplitDesc>,
+}
+
+impl Drop for PartitionDesc {
+    fn drop(self) {
+        let PartitionDesc { splits: _splits } = self;
+    }
 }

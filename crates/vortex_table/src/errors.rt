@@ -1,4 +1,5 @@
 // Why tables and scans are refused.
+use std::fmt;
 use thiserror::Error;
 use vortex_array::Name;
 
@@ -13,7 +14,7 @@ pub enum TableError {
     SourceCount,
     /// The first split whose chunks differ from the columns in number, from the split in rows, or from a
     /// column in type, nulls or none included.
-    #[error("the chunks of split {split} of partition {partition} do not fit the columns")]
+    #[error(fmt = show_unfit_chunks)]
     ChunkListDoesNotFit { partition: u64, split: u64 },
     /// The rows of the table, or six times its splits and twice its partitions, do not fit 64 bits.
     #[error("the table has too many rows or splits")]
@@ -23,8 +24,20 @@ pub enum TableError {
     OutOfMemory,
 }
 
+// The message of a split whose chunks do not fit.
+fn show_unfit_chunks<W: fmt::Write>(
+    partition: &u64,
+    split: &u64,
+    f: &mut fmt::Formatter<W>,
+) -> fmt::Result {
+    write!(
+        f,
+        "the chunks of split {split} of partition {partition} do not fit the columns"
+    )
+}
+
 /// Why a scan is refused. The first that holds is answered.
-#[derive(Debug, Drop, Error)]
+#[derive(Debug, Error)]
 pub enum ScanError {
     /// The table or the request is of a form that is not built yet.
     #[error("the table or the request is of a form that is not built")]
@@ -35,4 +48,14 @@ pub enum ScanError {
     /// Want of memory.
     #[error("out of memory")]
     OutOfMemory,
+}
+
+impl Drop for ScanError {
+    fn drop(self) {
+        match self {
+            ScanError::NotBuilt => {}
+            ScanError::InvalidRequest { name: _name } => {}
+            ScanError::OutOfMemory => {}
+        }
+    }
 }

@@ -12,8 +12,6 @@ mod partition;
 pub mod scan;
 mod table;
 mod table_scan;
-#[cfg(test)]
-mod tests;
 
 pub use chunk::Chunk;
 pub use describe::{ChunkDesc, PartitionDesc, SplitDesc};

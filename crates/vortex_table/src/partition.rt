@@ -1,16 +1,17 @@
 // The scan of one partition of one column: ask for the chunks of its splits, and keep what is kept of each.
-ghost use Rattle.std.specs.Prelude.{◌≡◌, ◌<◌, ◌≤◌, ◌+◌, ◌^◌, All, IfOk, OnOk, length, filter, List, None, ℕ, Some, [], ◌∷◌, ◌++◌, map, sum_by};
+ghost use Rattle.std.specs.Prelude.{◌≡◌, ◌<◌, ◌≤◌, ◌+◌, ◌^◌, All, IfOk, OnErr, OnOk, length, filter, List, None, ℕ, Some, [], ◌∷◌, ◌++◌, map, sum_by};
 ghost use Rattle.vortex_array.specs.ColumnOf.{column_of};
 ghost use Rattle.std.specs.List.{AllZip};
 ghost use Rattle.vortex_io.specs.Memory.{MemoryState};
+ghost use Rattle.vortex_buffer.specs.declared.compare_operator.CompareOperator.TheVariants.{Eq, NotEq, Gt, Gte, Lt, Lte};
 ghost use Rattle.vortex_table.specs.Built.{u64_type};
 ghost use Rattle.vortex_table.specs.ChunkOf.{chunk_column};
 ghost use Rattle.vortex_table.specs.Described.{total_rows};
 ghost use Rattle.vortex_table.specs.Given.{given};
-ghost use Rattle.vortex_table.specs.State.{Stands};
+ghost use Rattle.vortex_table.specs.State.{ArrivesInOrder, Stands};
 ghost use Rattle.vortex_table.specs.Kept.{passes};
 ghost use Rattle.vortex_table.specs.Fetching.{asked_for, fetched, journals_after, split_request, split_requests, waits_for};
-ghost use Rattle.vortex_table.specs.Scanning.{AreOfFirstRoot, FirstHolds, HasNumbers, IsExtended, after_split, batch_if, column_numbers, kept_batches, oldest_column, scope_at, table_batches, u64_column, waited};
+ghost use Rattle.vortex_table.specs.Scanning.{AreOfFirstRoot, CompletesOldest, FirstHolds, HasNumbers, IsExtended, after_split, batch_if, column_numbers, kept_batches, oldest_column, scope_at, table_batches, u64_column, waited};
 
 use crate::built::Comparison;
 use crate::chunk::Chunk;
@@ -23,8 +24,8 @@ use vortex_array::{
 };
 use vortex_buffer::Buffer;
 use vortex_io::{
-    IoBatch, IoError, IoIntent, IoOwnerId, IoRequest, IoRequestId, IoResult, IoSource, IoTarget,
-    MemorySource,
+    Completion, IoBatch, IoError, IoIntent, IoOwnerId, IoRequest, IoRequestId, IoResult, IoSource,
+    IoTarget, MemorySource,
 };
 
 // A copy of all numbers.
@@ -35,19 +36,84 @@ fn copied(alloc: Global, values: &[u64]) -> Result<Vec<u64>, AllocError>
     Ok(all)
 }
 
+// The numbers that are equal to the constant, in order.
+fn equal_to(alloc: Global, constant: u64, values: &[u64]) -> Result<Vec<u64>, AllocError>
+    ensures { IfOk result (λ v. v.items ≡ filter (passes (Some (record { operator = Eq; constant = constant }))) values.now) }
+{
+    values
+        .iter()
+        .copied()
+        .filter(|x| x.cmp(&constant).is_eq())
+        .collect(alloc)
+}
+
+// The numbers that differ from the constant, in order.
+fn unequal_to(alloc: Global, constant: u64, values: &[u64]) -> Result<Vec<u64>, AllocError>
+    ensures { IfOk result (λ v. v.items ≡ filter (passes (Some (record { operator = NotEq; constant = constant }))) values.now) }
+{
+    values
+        .iter()
+        .copied()
+        .filter(|x| x.cmp(&constant).is_ne())
+        .collect(alloc)
+}
+
+// The numbers that are above the constant, in order.
+fn above(alloc: Global, constant: u64, values: &[u64]) -> Result<Vec<u64>, AllocError>
+    ensures { IfOk result (λ v. v.items ≡ filter (passes (Some (record { operator = Gt; constant = constant }))) values.now) }
+{
+    values
+        .iter()
+        .copied()
+        .filter(|x| x.cmp(&constant).is_gt())
+        .collect(alloc)
+}
+
+// The numbers that are at least the constant, in order.
+fn at_least(alloc: Global, constant: u64, values: &[u64]) -> Result<Vec<u64>, AllocError>
+    ensures { IfOk result (λ v. v.items ≡ filter (passes (Some (record { operator = Gte; constant = constant }))) values.now) }
+{
+    values
+        .iter()
+        .copied()
+        .filter(|x| x.cmp(&constant).is_ge())
+        .collect(alloc)
+}
+
+// The numbers that are below the constant, in order.
+fn below(alloc: Global, constant: u64, values: &[u64]) -> Result<Vec<u64>, AllocError>
+    ensures { IfOk result (λ v. v.items ≡ filter (passes (Some (record { operator = Lt; constant = constant }))) values.now) }
+{
+    values
+        .iter()
+        .copied()
+        .filter(|x| x.cmp(&constant).is_lt())
+        .collect(alloc)
+}
+
+// The numbers that are at most the constant, in order.
+fn at_most(alloc: Global, constant: u64, values: &[u64]) -> Result<Vec<u64>, AllocError>
+    ensures { IfOk result (λ v. v.items ≡ filter (passes (Some (record { operator = Lte; constant = constant }))) values.now) }
+{
+    values
+        .iter()
+        .copied()
+        .filter(|x| x.cmp(&constant).is_le())
+        .collect(alloc)
+}
+
 // The numbers that a comparison keeps, in order. The operator is looked at once.
 fn compared(alloc: Global, comparison: Comparison, values: &[u64]) -> Result<Vec<u64>, AllocError>
     ensures { IfOk result (λ v. v.items ≡ filter (passes (Some comparison)) values.now) }
 {
     let constant = comparison.constant;
-    let values = values.iter().copied();
     match comparison.operator {
-        CompareOperator::Eq => values.filter(|x| x.cmp(&constant).is_eq()).collect(alloc),
-        CompareOperator::NotEq => values.filter(|x| x.cmp(&constant).is_ne()).collect(alloc),
-        CompareOperator::Gt => values.filter(|x| x.cmp(&constant).is_gt()).collect(alloc),
-        CompareOperator::Gte => values.filter(|x| x.cmp(&constant).is_ge()).collect(alloc),
-        CompareOperator::Lt => values.filter(|x| x.cmp(&constant).is_lt()).collect(alloc),
-        CompareOperator::Lte => values.filter(|x| x.cmp(&constant).is_le()).collect(alloc),
+        CompareOperator::Eq => equal_to(alloc, constant, values),
+        CompareOperator::NotEq => unequal_to(alloc, constant, values),
+        CompareOperator::Gt => above(alloc, constant, values),
+        CompareOperator::Gte => at_least(alloc, constant, values),
+        CompareOperator::Lt => below(alloc, constant, values),
+        CompareOperator::Lte => at_most(alloc, constant, values),
     }
 }
 
@@ -96,21 +162,33 @@ fn array_of(chunk: &Chunk) -> &Array
     }
 }
 
+// Waits for the oldest outstanding fetch.
+fn wait_oldest(source: &mut MemorySource<Chunk>) -> Result<Completion<Chunk>, AllocError>
+    requires some { 0 < length source.old.outstanding }
+    requires arrives { ArrivesInOrder source.old }
+    ensures ok { IfOk result (CompletesOldest source.old source.new) }
+    ensures waited { OnOk result (source.new ≡ waited source.old) }
+    ensures err { OnErr result (source.new ≡ source.old) }
+{
+    match source.wait() {
+        Ok(completion) => Ok(completion),
+        Err(_) => Err(AllocError),
+    }
+}
+
 // Waits for the oldest outstanding fetch, of a chunk of numbers, and keeps what is kept of them.
 fn next_kept(
     alloc: Global,
     source: &mut MemorySource<Chunk>,
     keep: &Option<Comparison>,
 ) -> Result<Vec<u64>, AllocError>
-    requires { (numbers : List ℕ) × (oldest_column source.old.chunks source.old.outstanding ≡ Some (u64_column numbers)) }
+    requires arrives { ArrivesInOrder source.old }
+    requires asked { (numbers : List ℕ) × (oldest_column source.old.chunks source.old.outstanding ≡ Some (u64_column numbers)) }
     ensures kept { IfOk result (λ v. (numbers : List ℕ) → oldest_column source.old.chunks source.old.outstanding ≡ Some (u64_column numbers) → v.items ≡ filter (passes keep.now) numbers) }
     ensures waited { OnOk result (source.new ≡ waited source.old) }
     ensures stands { IsExtended source.old source.new }
 {
-    let completion = match source.wait() {
-        Ok(completion) => completion,
-        Err(_) => return Err(AllocError),
-    };
+    let completion = wait_oldest(source)?;
     match completion.result {
         IoResult::Chunk(chunk) => {
             let kept = kept_in(alloc, keep, array_of(&chunk))?;
@@ -185,6 +263,7 @@ fn scan_split(
     batches: &mut Vec<Batch>,
 ) -> Result<(), AllocError>
     requires fits { start + split.now.rows < 2 ^ 64 }
+    requires arrives { ArrivesInOrder source.old }
     requires fetched { 0 < split.now.rows → (numbers : List ℕ) × (oldest_column source.old.chunks source.old.outstanding ≡ Some (u64_column numbers)) }
     ensures batches { OnOk result ((numbers : List ℕ) → length numbers ≡ split.now.rows → (0 < split.now.rows → oldest_column source.old.chunks source.old.outstanding ≡ Some (u64_column numbers))
         → map given batches.new.items ≡ map given batches.old.items ++ batch_if (scope_at start split.now) (filter (passes keep.now) numbers)) }
@@ -211,6 +290,7 @@ fn scan_splits(
     keep: &Option<Comparison>,
 ) -> Result<Vec<Batch>, AllocError>
     requires fits { sum_by (λ split. split.rows) splits.now < 2 ^ 64 }
+    requires arrives { ArrivesInOrder source.old }
     requires held { (numbers : List (List ℕ)) × HasNumbers source.old.chunks splits.now numbers }
     requires asked { source.old.outstanding ≡ asked_for splits.now }
     ensures batches { IfOk result (λ v. (numbers : List (List ℕ)) → HasNumbers source.old.chunks splits.now numbers → map given v.items ≡ kept_batches keep.now 0 splits.now numbers) }
@@ -261,6 +341,7 @@ pub(crate) fn scan_partition(
     keep: &Option<Comparison>,
 ) -> Result<Vec<Batch>, AllocError>
     requires fits { sum_by (λ split. split.rows) splits.now < 2 ^ 64 }
+    requires arrives { ArrivesInOrder source.old }
     requires held { (numbers : List (List ℕ)) × HasNumbers source.old.chunks splits.now numbers }
     requires idle { source.old.outstanding ≡ [] }
     ensures batches { IfOk result (λ v. (numbers : List (List ℕ)) → HasNumbers source.old.chunks splits.now numbers → map given v.items ≡ kept_batches keep.now 0 splits.now numbers) }
@@ -282,6 +363,7 @@ fn fetch_and_scan(
     keep: &Option<Comparison>,
 ) -> Result<Vec<Batch>, AllocError>
     requires fits { sum_by (λ split. split.rows) splits.now < 2 ^ 64 }
+    requires arrives { ArrivesInOrder source.old }
     requires held { (numbers : List (List ℕ)) × HasNumbers source.old.chunks splits.now numbers }
     requires idle { source.old.outstanding ≡ [] }
     ensures batches { IfOk result (λ v. (numbers : List (List ℕ)) → HasNumbers source.old.chunks splits.now numbers → map given v.items ≡ kept_batches keep.now 0 splits.now numbers) }
@@ -310,6 +392,7 @@ pub(crate) fn scan_sources(
     requires paired { length sources.old.items ≡ length partitions.now }
     requires fits { total_rows partitions.now < 2 ^ 64 }
     requires idle { All (λ (s : MemoryState Chunk). s.outstanding ≡ []) sources.old.items }
+    requires arrives { All ArrivesInOrder sources.old.items }
     requires held { FirstHolds partitions.now sources.old.items }
     ensures batches { IfOk result (λ v. map given v.items ≡ table_batches keep.now partitions.now sources.old.items) }
     ensures roots { IfOk result (λ v. AreOfFirstRoot v.items) }

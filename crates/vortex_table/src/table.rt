@@ -7,7 +7,7 @@ ghost use Rattle.vortex_table.specs.Built.{is_one_u64};
 ghost use Rattle.vortex_table.specs.Fetching.{journals_after};
 ghost use Rattle.vortex_table.specs.Given.{contents_of, given};
 ghost use Rattle.vortex_table.specs.Scanning.{AreOfFirstRoot, table_batches};
-ghost use Rattle.vortex_table.specs.State.{IsCleared, Stands};
+ghost use Rattle.vortex_table.specs.State.{ArrivesInOrder, IsCleared, Stands};
 ghost use Rattle.vortex_table.specs.Table.{FitsPartition};
 
 use crate::built::Comparison;
@@ -31,11 +31,20 @@ pub struct TableRefused<S: IoSource<Payload = Chunk>> {
 
 /// A table: columns, partitions cut into splits, and a source for each partition, which has a chunk for
 /// each split and each column. Contracts see its description and its sources.
-#[derive(Drop)]
 pub struct Table<S: IoSource<Payload = Chunk>> {
     columns: Vec<ColumnDesc>,
     partitions: Vec<PartitionDesc>,
     sources: Vec<S>,
+}
+
+impl<S: IoSource<Payload = Chunk> + Drop> Drop for Table<S> {
+    fn drop(self) {
+        let Table {
+            columns: _columns,
+            partitions: _partitions,
+            sources: _sources,
+        } = self;
+    }
 }
 
 impl<S: IoSource<Payload = Chunk>> Model for Table<S> {
@@ -51,7 +60,7 @@ impl<S: IoSource<Payload = Chunk>> Model for Table<S> {
 
 // Gives up what is outstanding at each source.
 fn clear_all<S: IoSource<Payload = Chunk>>(sources: &mut Vec<S>)
-    ensures { AllZip (IsCleared S.outstanding S.content S.journal S.faults) sources.old.items sources.new.items }
+    ensures { AllZip (IsCleared S.outstanding S.content S.journal S.faults S.clears) sources.old.items sources.new.items }
 {
     for source in sources.iter_mut() {
         source.clear();
@@ -69,7 +78,7 @@ impl<S: IoSource<Payload = Chunk>> Table<S> {
     ) -> Result<Table<S>, TableRefused<S>>
         ensures columns { IfOk result (λ table. table.columns ≡ columns.items) }
         ensures partitions { IfOk result (λ table. table.partitions ≡ partitions.items) }
-        ensures sources { IfOk result (λ table. AllZip (IsCleared S.outstanding S.content S.journal S.faults) sources.items table.sources) }
+        ensures sources { IfOk result (λ table. AllZip (IsCleared S.outstanding S.content S.journal S.faults S.clears) sources.items table.sources) }
         ensures described { IfOk result (λ _. IsDescribed columns.items partitions.items (length sources.items)) }
         ensures cause { IfErr result (λ refused. Refuses columns.items partitions.items (length sources.items) refused.error) }
         ensures untouched { IfErr result (λ refused. refused.sources ≡ sources) }
@@ -148,6 +157,7 @@ impl Table<MemorySource<Chunk>> {
     ) -> Result<Vec<Batch>, AllocError>
         requires one { length self.old.partitions ≤ 1 }
         requires column { is_one_u64 self.old.columns ≡ true }
+        requires arrives { All ArrivesInOrder self.old.sources }
         requires fits { AllZip FitsPartition self.old.partitions (contents_of self.old.sources) }
         ensures described { IsDescribed self.old.columns self.old.partitions (length self.old.sources) }
         ensures columns { self.new.columns ≡ self.old.columns }

@@ -6,7 +6,7 @@ ghost use Rattle.vortex_table.specs.Answers.{Answers};
 ghost use Rattle.vortex_table.specs.Built.{ChangesNothing, HasCause, is_built};
 ghost use Rattle.vortex_table.specs.Fetching.{journals_after};
 ghost use Rattle.vortex_table.specs.Given.{contents_of, given, question, rank};
-ghost use Rattle.vortex_table.specs.State.{Stands};
+ghost use Rattle.vortex_table.specs.State.{ArrivesInOrder, Stands};
 ghost use Rattle.vortex_table.specs.Table.{FitsPartition};
 ghost use Rattle.vortex_table.specs.Valid.{first_unknown};
 
@@ -20,7 +20,7 @@ use vortex_io::MemorySource;
 
 /// The rows of a table that a request chooses, in batches.
 ///
-/// The content of each source has to fit its partition. Then an answer has no empty batch, one batch at
+/// The content of each source has to fit its partition, and each has to complete its oldest fetch when it is waited for. Then an answer has no empty batch, one batch at
 /// most for each split, each with the first of the chosen rows there, and together as many rows as the
 /// limit allows; where the request wants order the batches stand in the order of the table.
 ///
@@ -35,6 +35,7 @@ pub fn scan_table(
     request: &ScanRequest,
     steps: u64,
 ) -> Result<Vec<Batch>, ScanError>
+    requires arrives { All ArrivesInOrder table.old.sources }
     requires fits { AllZip FitsPartition table.old.partitions (contents_of table.old.sources) }
     ensures rows { IfOk result (λ v. Answers (question table.old request.now) (map given v.items)) }
     ensures roots { IfOk result (λ v. All (λ (b : Batch). b.root.0 ≡ rank request.now b.scope.file_ordinal) v.items) }

@@ -1,2 +1,3 @@
 pub mod UnknownNames
 pub mod Bounds
+pub mod FilterCopies

@@ -1,6 +1,5 @@
 use Rattle.std.proofs.Common.{◌≡◌, ℕ, ℤ, pos, refl, arith}
 use Rattle.std.specs.Ordering.{nat_cmp, int_cmp}
-use Rattle.std.specs.Cmp.{int_cmp_is}
 
 -- natural numbers stand as they do as whole numbers
 pub naturals_ordered : (x y : ℕ) → nat_cmp x y ≡ int_cmp (pos x) (pos y)

@@ -2,8 +2,8 @@
 use Rattle.std.specs.Prelude.{ℕ, List, Bool, true, false, not, ◌&&◌, Option, Some, None, is_none, option_map, option_and_then}
 use Rattle.vortex_types.specs.declared.scalar.Value.{Value}
 use Rattle.vortex_types.specs.declared.scalar.Value.TheVariants as value
-use Rattle.vortex_compute.specs.declared.compare.CompareOperator.{CompareOperator}
-use Rattle.vortex_compute.specs.declared.compare.CompareOperator.TheVariants.{Gt, Gte, Lt, Lte}
+use Rattle.vortex_buffer.specs.declared.compare_operator.CompareOperator.{CompareOperator}
+use Rattle.vortex_buffer.specs.declared.compare_operator.CompareOperator.TheVariants.{Gt, Gte, Lt, Lte}
 use Rattle.vortex_types.specs.declared.filter.StrictComparison.{StrictComparison}
 use Rattle.vortex_types.specs.declared.filter.StrictComparison.TheVariants.{Strict, NonStrict}
 use Rattle.vortex_types.specs.declared.filter.BetweenOptions.{BetweenOptions}

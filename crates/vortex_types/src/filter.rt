@@ -2,7 +2,7 @@
 use crate::names::Name;
 use crate::scalar::Scalar;
 use sqlite_items::Boxed;
-use vortex_compute::CompareOperator;
+use vortex_buffer::CompareOperator;
 
 /// Whether a bound itself is left out.
 #[derive(Clone, Copy, Debug, PartialEq, Eq)]
@@ -19,10 +19,18 @@ pub struct BetweenOptions {
 }
 
 /// A row's value in a column, or a constant.
-#[derive(Drop)]
 pub enum Operand {
     Column(Name),
     Constant(Scalar),
+}
+
+impl Drop for Operand {
+    fn drop(self) {
+        match self {
+            Operand::Column(_part) => {}
+            Operand::Constant(_part) => {}
+        }
+    }
 }
 
 /// What chooses rows. Its truth for a row is one of three: true, false and null.

@@ -1,19 +1,21 @@
 // Whether a filter can be asked of a table's columns, and copies of filters.
-ghost use Rattle.std.specs.Prelude.{◌≡◌, ◌∷◌, [], not, find, is_some, option_copied, IfErr, IfOk};
+ghost use Rattle.std.specs.Prelude.{◌≡◌, ◌∷◌, ◌++◌, [], Ok, not, find, is_some, option_copied, IfErr, IfOk, IsOkAnd};
 ghost use Rattle.vortex_types.specs.Cells.{dtype_of};
 ghost use Rattle.vortex_types.specs.Checked.{Checks, Cause, first_unknown};
+ghost use Rattle.vortex_types.specs.declared.filter.Filter.TheVariants as filters;
 ghost use Rattle.vortex_types.specs.Typed.{filter_names, is_constant as is_constant_operand, is_text, is_truth_value, operand_names, operand_type, same_type, well_typed};
 
 use crate::column::ColumnDesc;
-use crate::filter::{Filter, Operand};
+use crate::filter::{BetweenOptions, Filter, Operand};
 use crate::names::Name;
 use crate::types::DType;
 use sqlite_items::Boxed;
 use std::alloc::{AllocError, Global};
 use thiserror::Error;
+use vortex_buffer::CompareOperator;
 
 /// Why a filter cannot be asked of a table's columns.
-#[derive(Debug, PartialEq, Eq, Drop, Error)]
+#[derive(Debug, PartialEq, Eq, Error)]
 pub enum FilterError {
     /// No column has this name: the first such name of the filter, from left to right.
     #[error("no column has the name {name}")]
@@ -24,6 +26,16 @@ pub enum FilterError {
     /// Memory ran out.
     #[error("out of memory")]
     OutOfMemory,
+}
+
+impl Drop for FilterError {
+    fn drop(self) {
+        match self {
+            FilterError::UnknownColumn { name: _name } => {}
+            FilterError::MismatchedTypes => {}
+            FilterError::OutOfMemory => {}
+        }
+    }
 }
 
 impl From<AllocError> for FilterError {
@@ -54,32 +66,21 @@ impl Filter {
         ensures { IfOk result (λ f. f ≡ self.now) }
     {
         match self {
-            Filter::Truth(x) => Ok(Filter::Truth(x.try_clone(alloc)?)),
-            Filter::Compare(operator, x, y) => Ok(Filter::Compare(
-                *operator,
-                x.try_clone(alloc)?,
-                y.try_clone(alloc)?,
-            )),
-            Filter::Between(options, x, lower, upper) => Ok(Filter::Between(
-                *options,
-                x.try_clone(alloc)?,
-                lower.try_clone(alloc)?,
-                upper.try_clone(alloc)?,
-            )),
-            Filter::Like(x, pattern) => {
-                Ok(Filter::Like(x.try_clone(alloc)?, pattern.try_clone(alloc)?))
+            Filter::Truth(x) => truth_copied(alloc, x),
+            Filter::Compare(operator, x, y) => compare_copied(alloc, *operator, x, y),
+            Filter::Between(options, x, lower, upper) => {
+                between_copied(alloc, *options, x, lower, upper)
             }
-            Filter::IsNull(x) => Ok(Filter::IsNull(x.try_clone(alloc)?)),
-            Filter::Not(f) => Ok(Filter::Not(Boxed::new(alloc, f.get().try_clone(alloc)?)?)),
+            Filter::Like(x, pattern) => like_copied(alloc, x, pattern),
+            Filter::IsNull(x) => is_null_copied(alloc, x),
+            Filter::Not(f) => not_of(alloc, f.get().try_clone(alloc)),
             Filter::And(f, g) => {
-                let f = f.get().try_clone(alloc)?;
-                let g = g.get().try_clone(alloc)?;
-                Ok(Filter::And(Boxed::new(alloc, f)?, Boxed::new(alloc, g)?))
+                let f = f.get().try_clone(alloc);
+                and_of(alloc, f, g.get().try_clone(alloc))
             }
             Filter::Or(f, g) => {
-                let f = f.get().try_clone(alloc)?;
-                let g = g.get().try_clone(alloc)?;
-                Ok(Filter::Or(Boxed::new(alloc, f)?, Boxed::new(alloc, g)?))
+                let f = f.get().try_clone(alloc);
+                or_of(alloc, f, g.get().try_clone(alloc))
             }
         }
     }
@@ -106,6 +107,121 @@ impl Filter {
     }
 }
 
+// A truth value, copied.
+fn truth_copied(alloc: Global, x: &Operand) -> Result<Filter, AllocError>
+    ensures { IfOk result (λ f. f ≡ filters.Truth x.now) }
+{
+    Ok(Filter::Truth(x.try_clone(alloc)?))
+}
+
+// Whether an operand is null, copied.
+fn is_null_copied(alloc: Global, x: &Operand) -> Result<Filter, AllocError>
+    ensures { IfOk result (λ f. f ≡ filters.IsNull x.now) }
+{
+    Ok(Filter::IsNull(x.try_clone(alloc)?))
+}
+
+// Two operands compared, copied.
+fn compare_copied(
+    alloc: Global,
+    operator: CompareOperator,
+    x: &Operand,
+    y: &Operand,
+) -> Result<Filter, AllocError>
+    ensures { IfOk result (λ f. f ≡ filters.Compare operator x.now y.now) }
+{
+    let x = x.try_clone(alloc)?;
+    let y = y.try_clone(alloc)?;
+    Ok(Filter::Compare(operator, x, y))
+}
+
+// An operand between two others, copied.
+fn between_copied(
+    alloc: Global,
+    options: BetweenOptions,
+    x: &Operand,
+    lower: &Operand,
+    upper: &Operand,
+) -> Result<Filter, AllocError>
+    ensures { IfOk result (λ f. f ≡ filters.Between options x.now lower.now upper.now) }
+{
+    let x = x.try_clone(alloc)?;
+    let lower = lower.try_clone(alloc)?;
+    let upper = upper.try_clone(alloc)?;
+    Ok(Filter::Between(options, x, lower, upper))
+}
+
+// An operand like a pattern, copied.
+fn like_copied(alloc: Global, x: &Operand, pattern: &Operand) -> Result<Filter, AllocError>
+    ensures { IfOk result (λ f. f ≡ filters.Like x.now pattern.now) }
+{
+    let x = x.try_clone(alloc)?;
+    let pattern = pattern.try_clone(alloc)?;
+    Ok(Filter::Like(x, pattern))
+}
+
+// The negation of a filter, where there was memory.
+fn not_of(alloc: Global, f: Result<Filter, AllocError>) -> Result<Filter, AllocError>
+    ensures { IfOk result (λ h. IsOkAnd f (λ x. h ≡ filters.Not x)) }
+{
+    match boxed(alloc, f) {
+        Ok(f) => Ok(Filter::Not(f)),
+        Err(e) => Err(e),
+    }
+}
+
+// Two filters in boxes, where there was memory for both.
+fn both(
+    alloc: Global,
+    f: Result<Filter, AllocError>,
+    g: Result<Filter, AllocError>,
+) -> Result<(Boxed<Filter>, Boxed<Filter>), AllocError>
+    ensures { IfOk result (λ pair. (f ≡ Ok pair.0) × (g ≡ Ok pair.1)) }
+{
+    match boxed(alloc, f) {
+        Ok(f) => match boxed(alloc, g) {
+            Ok(g) => Ok((f, g)),
+            Err(e) => Err(e),
+        },
+        Err(e) => Err(e),
+    }
+}
+
+// Two filters that both hold, where there was memory.
+fn and_of(
+    alloc: Global,
+    f: Result<Filter, AllocError>,
+    g: Result<Filter, AllocError>,
+) -> Result<Filter, AllocError>
+    ensures { IfOk result (λ h. IsOkAnd f (λ x. IsOkAnd g (λ y. h ≡ filters.And x y))) }
+{
+    match both(alloc, f, g) {
+        Ok((f, g)) => Ok(Filter::And(f, g)),
+        Err(e) => Err(e),
+    }
+}
+
+// Two filters of which one holds, where there was memory.
+fn or_of(
+    alloc: Global,
+    f: Result<Filter, AllocError>,
+    g: Result<Filter, AllocError>,
+) -> Result<Filter, AllocError>
+    ensures { IfOk result (λ h. IsOkAnd f (λ x. IsOkAnd g (λ y. h ≡ filters.Or x y))) }
+{
+    match both(alloc, f, g) {
+        Ok((f, g)) => Ok(Filter::Or(f, g)),
+        Err(e) => Err(e),
+    }
+}
+
+// A filter in a box, where there was memory for it.
+fn boxed(alloc: Global, f: Result<Filter, AllocError>) -> Result<Boxed<Filter>, AllocError>
+    ensures { IfOk result (λ boxed. f ≡ Ok boxed) }
+{
+    Boxed::new(alloc, f?)
+}
+
 // The type of the column with this name, or none where no column has the name.
 fn column_type(columns: &[ColumnDesc], name: &str) -> Option<DType>
     ensures { result ≡ dtype_of columns.now name.now }
@@ -130,6 +246,33 @@ fn unknown_operand<'a>(columns: &[ColumnDesc], operand: &'a Operand) -> Option<&
     }
 }
 
+// The first name of two operands that no column has.
+#[tactic(auto, using(crate::proofs::UnknownNames::find_append))]
+fn unknown_of_two<'a>(columns: &[ColumnDesc], x: &'a Operand, y: &'a Operand) -> Option<&'a Name>
+    ensures { option_copied result ≡ find (λ n. not (is_some (dtype_of columns.now n))) (operand_names x.now ++ operand_names y.now) }
+{
+    match unknown_operand(columns, x) {
+        Some(name) => Some(name),
+        None => unknown_operand(columns, y),
+    }
+}
+
+// The first name of three operands that no column has.
+#[tactic(auto, using(crate::proofs::UnknownNames::find_append))]
+fn unknown_of_three<'a>(
+    columns: &[ColumnDesc],
+    x: &'a Operand,
+    y: &'a Operand,
+    z: &'a Operand,
+) -> Option<&'a Name>
+    ensures { option_copied result ≡ find (λ n. not (is_some (dtype_of columns.now n))) (operand_names x.now ++ operand_names y.now ++ operand_names z.now) }
+{
+    match unknown_of_two(columns, x, y) {
+        Some(name) => Some(name),
+        None => unknown_operand(columns, z),
+    }
+}
+
 // The first name of a filter, from left to right, that no column has.
 #[tactic(auto, using(crate::specs::declared::filter::Filter::the_lemmas, crate::proofs::UnknownNames::find_append))]
 fn unknown_in<'a>(columns: &[ColumnDesc], filter: &'a Filter) -> Option<&'a Name>
@@ -138,21 +281,9 @@ fn unknown_in<'a>(columns: &[ColumnDesc], filter: &'a Filter) -> Option<&'a Name
     match filter {
         Filter::Truth(x) => unknown_operand(columns, x),
         Filter::IsNull(x) => unknown_operand(columns, x),
-        Filter::Compare(_, x, y) => match unknown_operand(columns, x) {
-            Some(name) => Some(name),
-            None => unknown_operand(columns, y),
-        },
-        Filter::Like(x, y) => match unknown_operand(columns, x) {
-            Some(name) => Some(name),
-            None => unknown_operand(columns, y),
-        },
-        Filter::Between(_, x, lower, upper) => match unknown_operand(columns, x) {
-            Some(name) => Some(name),
-            None => match unknown_operand(columns, lower) {
-                Some(name) => Some(name),
-                None => unknown_operand(columns, upper),
-            },
-        },
+        Filter::Compare(_, x, y) => unknown_of_two(columns, x, y),
+        Filter::Like(x, y) => unknown_of_two(columns, x, y),
+        Filter::Between(_, x, lower, upper) => unknown_of_three(columns, x, lower, upper),
         Filter::Not(f) => unknown_in(columns, f.get()),
         Filter::And(f, g) => match unknown_in(columns, f.get()) {
             Some(name) => Some(name),

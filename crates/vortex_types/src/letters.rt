@@ -13,9 +13,14 @@ use std::hash::{Hash, Hasher};
 use std::marker::Model;
 
 /// Text, which contracts see as its bytes.
-#[derive(Drop)]
 pub struct Letters {
     text: String,
+}
+
+impl Drop for Letters {
+    fn drop(self) {
+        let Letters { text: _text } = self;
+    }
 }
 
 impl Model for Letters {

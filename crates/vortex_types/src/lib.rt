@@ -10,8 +10,6 @@ mod names;
 mod native;
 mod octets;
 mod scalar;
-#[cfg(test)]
-mod tests;
 mod types;
 mod value_order;
 mod value_ref;
@@ -25,4 +23,4 @@ pub use scalar::{Scalar, Value, WrongType};
 pub use types::{BadPrecision, DType, DecimalDType, Nullability, PType};
 pub use value_order::{accepts, compares};
 pub use value_ref::ValueRef;
-pub use vortex_compute::CompareOperator;
+pub use vortex_buffer::CompareOperator;

@@ -8,9 +8,15 @@ use std::fmt;
 use std::marker::Model;
 
 /// The name of a column.
-#[derive(PartialEq, Eq, PartialOrd, Ord, Hash, Drop)]
+#[derive(PartialEq, Eq, PartialOrd, Ord, Hash)]
 pub struct Name {
     letters: Letters,
+}
+
+impl Drop for Name {
+    fn drop(self) {
+        let Name { letters: _letters } = self;
+    }
 }
 
 impl Model for Name {
@@ -69,9 +75,15 @@ impl fmt::Debug for Name {
 }
 
 /// A text.
-#[derive(PartialEq, Eq, PartialOrd, Ord, Hash, Drop)]
+#[derive(PartialEq, Eq, PartialOrd, Ord, Hash)]
 pub struct Text {
     letters: Letters,
+}
+
+impl Drop for Text {
+    fn drop(self) {
+        let Text { letters: _letters } = self;
+    }
 }
 
 impl Model for Text {
@@ -112,9 +124,15 @@ impl Text {
 }
 
 /// A list of bytes.
-#[derive(PartialEq, Eq, PartialOrd, Ord, Hash, Drop)]
+#[derive(PartialEq, Eq, PartialOrd, Ord, Hash)]
 pub struct Bytes {
     octets: Octets,
+}
+
+impl Drop for Bytes {
+    fn drop(self) {
+        let Bytes { octets: _octets } = self;
+    }
 }
 
 impl Model for Bytes {

@@ -13,9 +13,14 @@ use std::hash::{Hash, Hasher};
 use std::marker::Model;
 
 /// Bytes, which contracts see as their list.
-#[derive(Drop)]
 pub struct Octets {
     items: Vec<u8>,
+}
+
+impl Drop for Octets {
+    fn drop(self) {
+        let Octets { items: _items } = self;
+    }
 }
 
 impl Model for Octets {

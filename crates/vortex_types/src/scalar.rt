@@ -10,13 +10,25 @@ use std::marker::Model;
 use thiserror::Error;
 
 /// A value. A decimal's is its unscaled number.
-#[derive(PartialEq, Eq, Drop)]
+#[derive(PartialEq, Eq)]
 pub enum Value {
     Bool(bool),
     Int(i128),
     Decimal(i128),
     Utf8(Text),
     Binary(Bytes),
+}
+
+impl Drop for Value {
+    fn drop(self) {
+        match self {
+            Value::Bool(_part) => {}
+            Value::Int(_part) => {}
+            Value::Decimal(_part) => {}
+            Value::Utf8(_part) => {}
+            Value::Binary(_part) => {}
+        }
+    }
 }
 
 impl Value {
@@ -40,10 +52,18 @@ impl Value {
 pub struct WrongType;
 
 /// A value or null, of a type that it fits. Contracts see its type and value.
-#[derive(Drop)]
 pub struct Scalar {
     dtype: DType,
     value: Option<Value>,
+}
+
+impl Drop for Scalar {
+    fn drop(self) {
+        let Scalar {
+            dtype: _dtype,
+            value: _value,
+        } = self;
+    }
 }
 
 impl Model for Scalar {

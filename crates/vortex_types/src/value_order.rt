@@ -5,7 +5,7 @@ ghost use Rattle.vortex_types.specs.Seen.{value_seen};
 
 use crate::value_ref::ValueRef;
 use std::cmp::Ordering;
-use vortex_compute::CompareOperator;
+use vortex_buffer::CompareOperator;
 
 impl ValueRef<'_> {
     /// How a value stands to another: numbers by size, false before true, texts and bytes by their bytes. Values of two

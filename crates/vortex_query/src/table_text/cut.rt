@@ -1,8 +1,8 @@
 // Numbers cut into partitions and splits.
 ghost use Rattle.std.specs.Prelude.{◌≡◌, ◌*◌, ◌<◌, ◌∷◌, [], All, IfOk, length, map};
 ghost use Rattle.vortex_io.specs.Memory.{columns_of};
-ghost use Rattle.vortex_io.specs.declared.memory.Arrive.TheVariants.{OnWait};
-ghost use Rattle.vortex_query.specs.Spelled.{chunks_of, numbers_column, partition_of, piece as piece_of, pieces as pieces_of, split_of};
+ghost use Rattle.vortex_io.specs.declared.order.Order.TheVariants.{First};
+ghost use Rattle.vortex_query.specs.Spelled.{IsFresh, chunks_of, numbers_column, partition_of, piece as piece_of, pieces as pieces_of, split_of};
 ghost use Rattle.vortex_table.specs.ChunkOf.{chunk_column, content_of};
 ghost use Rattle.vortex_table.specs.Given.{contents_of};
 
@@ -53,18 +53,25 @@ fn split(alloc: Global, numbers: &[u64]) -> Result<SplitDesc, AllocError>
     })
 }
 
+// The split of each part.
+fn splits(alloc: Global, parts: &[&[u64]]) -> Result<Vec<SplitDesc>, AllocError>
+    ensures { IfOk result (λ splits. splits.items ≡ map split_of (map (λ part. part.now) parts.now)) }
+{
+    let mut splits = Vec::new(alloc);
+    for part in parts {
+        splits.push(split(alloc, part)?)?;
+    }
+    Ok(splits)
+}
+
 // The partition of these numbers.
 fn partition(alloc: Global, numbers: &[u64], size: usize) -> Result<PartitionDesc, AllocError>
     requires { 0 < size }
     ensures { IfOk result (λ partition. partition ≡ partition_of size numbers.now) }
 {
     let parts = pieces(alloc, numbers, size)?;
-    let mut splits = Vec::new(alloc);
-    for part in &parts {
-        splits.push(split(alloc, part)?)?;
-    }
     Ok(PartitionDesc {
-        splits: Items::from_vec(splits),
+        splits: Items::from_vec(splits(alloc, &parts)?),
     })
 }
 
@@ -98,16 +105,25 @@ fn chunk(alloc: Global, numbers: &[u64]) -> Result<Vec<Chunk>, AllocError>
     Ok(chunks)
 }
 
+// The chunks of each part.
+fn chunks(alloc: Global, parts: &[&[u64]]) -> Result<Vec<Vec<Chunk>>, AllocError>
+    ensures { IfOk result (λ chunks. content_of (map columns_of chunks.items) ≡ map (λ part. numbers_column part ∷ []) (map (λ part. part.now) parts.now)) }
+{
+    let mut chunks = Vec::new(alloc);
+    for part in parts {
+        chunks.push(chunk(alloc, part)?)?;
+    }
+    Ok(chunks)
+}
+
 // A source of the chunks of these numbers.
 fn source(alloc: Global, numbers: &[u64], size: usize) -> Result<MemorySource<Chunk>, AllocError>
     requires { 0 < size }
-    ensures { IfOk result (λ source. content_of source.chunks ≡ chunks_of size numbers.now) }
+    ensures content { IfOk result (λ source. content_of source.chunks ≡ chunks_of size numbers.now) }
+    ensures fresh { IfOk result (IsFresh First) }
 {
     let parts = pieces(alloc, numbers, size)?;
-    let mut chunks = Vec::new(alloc);
-    for part in &parts {
-        chunks.push(chunk(alloc, part)?)?;
-    }
+    let chunks = chunks(alloc, &parts)?;
     Ok(MemorySource::new(alloc, chunks, Arrive::OnWait(Order::First)))
 }
 
@@ -118,7 +134,8 @@ pub fn sources(
     size: usize,
 ) -> Result<Vec<MemorySource<Chunk>>, AllocError>
     requires { 0 < size }
-    ensures { IfOk result (λ sources. contents_of sources.items ≡ map (chunks_of size) (map (λ part. part.now) parts.now)) }
+    ensures fresh { IfOk result (λ sources. All (IsFresh First) sources.items) }
+    ensures contents { IfOk result (λ sources. contents_of sources.items ≡ map (chunks_of size) (map (λ part. part.now) parts.now)) }
 {
     let mut sources = Vec::new(alloc);
     for part in parts {

@@ -18,16 +18,30 @@ use vortex_array::RecordBatch;
 pub struct RootId(pub u64);
 
 /// The rows of a split: the number of its partition, and its rows in that partition.
-#[derive(Clone, Debug, PartialEq, Eq, Drop)]
+#[derive(Clone, Debug, PartialEq, Eq)]
 pub struct WorkScope {
     pub file_ordinal: u64,
     pub rows: Range<u64>,
 }
 
+impl Drop for WorkScope {
+    fn drop(self) {
+        let WorkScope {
+            file_ordinal: _file_ordinal,
+            rows: _rows,
+        } = self;
+    }
+}
+
 /// Numbers that contracts see as their list: what a `Place` is made of.
-#[derive(Drop)]
 pub struct Numbers {
     items: Vec<u64>,
+}
+
+impl Drop for Numbers {
+    fn drop(self) {
+        let Numbers { items: _items } = self;
+    }
 }
 
 impl Model for Numbers {
@@ -103,9 +117,15 @@ impl Hash for Numbers {
 }
 
 /// Where a batch's work stands among all work: a list of numbers, in lexicographic order.
-#[derive(PartialEq, Eq, PartialOrd, Ord, Hash, Drop)]
+#[derive(PartialEq, Eq, PartialOrd, Ord, Hash)]
 pub struct Place {
     numbers: Numbers,
+}
+
+impl Drop for Place {
+    fn drop(self) {
+        let Place { numbers: _numbers } = self;
+    }
 }
 
 impl Model for Place {
@@ -137,7 +157,6 @@ impl Place {
 }
 
 /// Rows of one split that a scan answers.
-#[derive(Drop)]
 pub struct Batch {
     /// Which of the chosen partitions it comes from.
     pub root: RootId,
@@ -147,4 +166,15 @@ pub struct Batch {
     pub place: Place,
     /// The rows.
     pub array: RecordBatch,
+}
+
+impl Drop for Batch {
+    fn drop(self) {
+        let Batch {
+            root: _root,
+            scope: _scope,
+            place: _place,
+            array: _array,
+        } = self;
+    }
 }

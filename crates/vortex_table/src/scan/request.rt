@@ -7,9 +7,14 @@ use std::ops::Range;
 use vortex_array::{Filter, Name};
 
 /// Names, which contracts see as their list.
-#[derive(Drop)]
 pub struct Names {
     items: Vec<Name>,
+}
+
+impl Drop for Names {
+    fn drop(self) {
+        let Names { items: _items } = self;
+    }
 }
 
 impl Model for Names {
@@ -37,15 +42,24 @@ impl Names {
 }
 
 /// Which columns an answer has: all of them, or the named ones in their order, which may repeat.
-#[derive(Default, Drop)]
+#[derive(Default)]
 pub enum Projection {
     #[default]
     All,
     Columns(Names),
 }
 
+impl Drop for Projection {
+    fn drop(self) {
+        match self {
+            Projection::All => {}
+            Projection::Columns(_part) => {}
+        }
+    }
+}
+
 /// What a scan is asked for. A missing filter or range chooses all, a missing limit cuts nothing.
-#[derive(Default, Drop)]
+#[derive(Default)]
 pub struct ScanRequest {
     pub projection: Projection,
     /// What keeps a row: that it is true of the row.
@@ -62,4 +76,19 @@ pub struct ScanRequest {
     pub ordered: bool,
     /// The most rows that are answered.
     pub limit: Option<u64>,
+}
+
+impl Drop for ScanRequest {
+    fn drop(self) {
+        let ScanRequest {
+            projection: _projection,
+            filter: _filter,
+            row_range: _row_range,
+            selection: _selection,
+            partition_selection: _partition_selection,
+            partition_range: _partition_range,
+            ordered: _ordered,
+            limit: _limit,
+        } = self;
+    }
 }

@@ -7,9 +7,14 @@ use thiserror::Error;
 use vortex_buffer::Buffer;
 
 /// Items in strictly ascending order. Contracts see their list.
-#[derive(Drop)]
 pub struct StrictSortedBuffer<T: Ord + Copy> {
     items: Buffer<T>,
+}
+
+impl<T: Ord + Copy> Drop for StrictSortedBuffer<T> {
+    fn drop(self) {
+        let StrictSortedBuffer { items: _items } = self;
+    }
 }
 
 impl<T: Ord + Copy> Model for StrictSortedBuffer<T> {
@@ -79,10 +84,20 @@ impl<T: Ord + Copy> StrictSortedBuffer<T> {
 }
 
 /// Which places are members: all, those listed, or all others.
-#[derive(Default, Drop)]
+#[derive(Default)]
 pub enum Selection {
     #[default]
     All,
     IncludeByIndex(StrictSortedBuffer<u64>),
     ExcludeByIndex(StrictSortedBuffer<u64>),
+}
+
+impl Drop for Selection {
+    fn drop(self) {
+        match self {
+            Selection::All => {}
+            Selection::IncludeByIndex(_part) => {}
+            Selection::ExcludeByIndex(_part) => {}
+        }
+    }
 }

@@ -1,5 +1,5 @@
 use Rattle.std.proofs.Common.{refl}
-use Rattle.vortex_array.specs.ColumnOf.{column_of, bool_column}
+use Rattle.vortex_array.specs.ColumnOf.{bool_column}
 use Rattle.vortex_array.proofs.Compared.{no-bytes}
 use Rattle.vortex_array.proofs.compare.compare_with_truths.Goals as goal
 

@@ -1,7 +1,4 @@
-use Rattle.std.proofs.Common.{◌∙◌, ap, map}
-use Rattle.vortex_selections.specs.Selected.{taken}
-use Rattle.vortex_selections.specs.SelectedParts.{index_column}
-use Rattle.vortex_columns.specs.declared.validity.Validity.TheVariants.{NonNullable}
+use Rattle.std.proofs.Common.{◌∙◌}
 use Rattle.vortex_array.specs.ColumnOf.{column_of}
 use Rattle.vortex_array.proofs.Filling.{repeated-first}
 use Rattle.vortex_array.proofs.fill.repeat_row.Goals as goal

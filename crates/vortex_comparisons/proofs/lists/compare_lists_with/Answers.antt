@@ -1,13 +1,9 @@
-use Rattle.std.proofs.Common.{◌∙◌, ◌≡◌, sym, ap, length, map, List, Bool}
-use Rattle.std.specs.Prelude.{IsTrue}
+use Rattle.std.proofs.Common.{◌∙◌, length}
 use Rattle.std.specs.Cmp.Lexicographic.{slice_cmp}
 use Rattle.std.specs.Ordering.{nat_cmp}
-use Rattle.std.specs.Simd.Lanes.{zip2}
-use Rattle.vortex_types.specs.Order.{accepts}
 use Rattle.vortex_types.specs.declared.types.DType.TheVariants as dtype
-use Rattle.vortex_columns.specs.Truths.{BothValid}
-use Rattle.vortex_comparisons.proofs.Sides.{length-answers, length-beside}
-use Rattle.vortex_comparisons.proofs.ListSides.{ListParts, list-parts, length-lists, long-lists, lists-compared, lists-beside}
+use Rattle.vortex_comparisons.proofs.Sides.{length-beside}
+use Rattle.vortex_comparisons.proofs.ListSides.{list-parts, long-lists, lists-beside}
 use Rattle.vortex_comparisons.proofs.lists.compare_lists_with.Goals as goal
 
 pub validity_of_rows-requires : goal.validity_of_rows-requires

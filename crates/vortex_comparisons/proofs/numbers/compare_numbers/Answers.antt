@@ -1,5 +1,4 @@
-use Rattle.std.proofs.Common.{◌∙◌, ◌≡◌, sym, ap, length, map, refl, List, Bool}
-use Rattle.std.specs.Prelude.{IsTrue}
+use Rattle.std.proofs.Common.{◌∙◌, ◌≡◌, length, map, refl}
 use Rattle.std.specs.Simd.Lanes.{zip2}
 use Rattle.std.specs.Ordering.{int_cmp}
 use Rattle.vortex_columns.specs.Kinds.{numbers_of, ptype_of}
@@ -8,8 +7,8 @@ use Rattle.vortex_types.specs.declared.scalar.Value.TheVariants as value
 use Rattle.vortex_types.specs.declared.types.DType.TheVariants as dtype
 use Rattle.vortex_columns.specs.Parts.{PrimitiveParts}
 use Rattle.vortex_columns.specs.Truths.{BothValid}
-use Rattle.vortex_columns.specs.Validities.{is_as_long, nullability_of}
-use Rattle.vortex_comparisons.proofs.Sides.{items-compared, items-beside, length-answers, length-beside, same-items}
+use Rattle.vortex_columns.specs.Validities.{nullability_of}
+use Rattle.vortex_comparisons.proofs.Sides.{items-compared, length-answers, same-items}
 use Rattle.vortex_comparisons.proofs.numbers.compare_numbers.Goals as goal
 
 pub buffer_bits-requires-clause-same_length : goal.buffer_bits-requires-clause-same_length

@@ -1,4 +1,4 @@
-use Rattle.vortex_compute.specs.declared.compare.CompareOperator.TheVariants.{Eq, NotEq, Gt, Gte, Lt, Lte}
+use Rattle.vortex_buffer.specs.declared.compare_operator.CompareOperator.TheVariants.{Eq, NotEq, Gt, Gte, Lt, Lte}
 use Rattle.vortex_comparisons.proofs.TurnedRound.{turned_round}
 use Rattle.vortex_comparisons.proofs.turned.turned_operator.Goals as goal
 

@@ -1,6 +1,6 @@
-use Rattle.std.proofs.Common.{◌≡◌, false, refl}
+use Rattle.std.proofs.Common.{refl}
 use Rattle.vortex_types.specs.Seen.{value_seen}
-use Rattle.vortex_comparisons.proofs.Equal.{bytes_kind, no-other}
+use Rattle.vortex_comparisons.proofs.Equal.{no-other}
 use Rattle.vortex_comparisons.proofs.values.compare_list_value.Goals as goal
 
 pub unreachable-requires : goal.unreachable-requires

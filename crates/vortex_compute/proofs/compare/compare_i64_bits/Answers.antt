@@ -1,8 +1,11 @@
 use Rattle.std.proofs.Common.{rules, sym, ap, ◌∙◌, ◌≡◌, map}
+use mir.Val.{SFits}
+use mir.Syntax.{w64}
+use Rattle.std.proofs.lemmas.Int.{to_z-of_z}
 use Rattle.vortex_buffer.specs.Bits.{packed_over}
 use Rattle.std.specs.Bool.{⊤}
 use Rattle.vortex_compute.specs.Compare.{compares}
-use Rattle.vortex_compute.specs.declared.compare.CompareOperator.TheVariants.{Eq, NotEq, Gt, Gte, Lt, Lte}
+use Rattle.vortex_buffer.specs.declared.compare_operator.CompareOperator.TheVariants.{Eq, NotEq, Gt, Gte}
 use Rattle.vortex_compute.proofs.WordSteps.{packs_function}
 use Rattle.vortex_compute.proofs.compare.compare_i64_bits.Goals as goal
 
@@ -47,21 +50,15 @@ returns-in-Gte c = record {
 }
 
 pub returns-in-Lt : goal.returns-in-Lt
-returns-in-Lt c = record {
-  written =
-      packs_function _ (λ x. ⊤) (λ value. compares c.args.operator value c.args.constant) c.new-lanes.result.slice.now c.args.words.now c.map_bits_into-in-Lt.new.words
-      (λ value answer q p. let here : answer ≡ compares Lt value c.args.constant = search rules in here ∙ ap (λ operator. compares operator value c.args.constant) (sym c.in-Lt.is))
-      (λ k d l. tt)
-      c.map_bits_into-in-Lt.ensures.written
-      ∙ ap (λ slice. packed_over (map (λ value. compares c.args.operator value c.args.constant) slice.now) c.args.words.now) c.new-lanes.ensures;
-}
+returns-in-Lt c =
+    let whole : SFits w64 c.args.constant = c.ranges.constant in
+    record {
+      written = (simp to_z-of_z at c.i64_below.ensures.written) ∙ ap (λ operator. packed_over (map (λ value. compares operator value c.args.constant) c.args.values.now) c.args.words.now) (sym c.in-Lt.is);
+    }
 
 pub returns-in-Lte : goal.returns-in-Lte
-returns-in-Lte c = record {
-  written =
-      packs_function _ (λ x. ⊤) (λ value. compares c.args.operator value c.args.constant) c.new-lanes.result.slice.now c.args.words.now c.map_bits_into-in-Lte.new.words
-      (λ value answer q p. let here : answer ≡ compares Lte value c.args.constant = search rules in here ∙ ap (λ operator. compares operator value c.args.constant) (sym c.in-Lte.is))
-      (λ k d l. tt)
-      c.map_bits_into-in-Lte.ensures.written
-      ∙ ap (λ slice. packed_over (map (λ value. compares c.args.operator value c.args.constant) slice.now) c.args.words.now) c.new-lanes.ensures;
-}
+returns-in-Lte c =
+    let whole : SFits w64 c.args.constant = c.ranges.constant in
+    record {
+      written = (simp to_z-of_z at c.i64_at_most.ensures.written) ∙ ap (λ operator. packed_over (map (λ value. compares operator value c.args.constant) c.args.values.now) c.args.words.now) (sym c.in-Lte.is);
+    }

@@ -14,7 +14,7 @@ returns-then-failed-ne0-clause-err g c =
     let old = g.S.IndexedSource.lanes c.args.values.now in
     let now = g.S.IndexedSource.lanes c.loop-k.values in
     let new = g.S.IndexedSource.lanes c.try_group_in_place.new.values in
-    rw c.word.ensures
+    rw (c.failed_lane.ensures, c.word.ensures)
     (tried_fails _ c.args.f c.loop-k.f c.try_group_in_place.new.f (λ answer. g.S.IndexedSink.reads_back (unwrap_or answer g.S.Write.LaneDefault.its_default)) c.args.mask.now c.loop-k.k 64 c.try_group_in_place.result old now new (omega arith) (omega (arith, c.len-len.ensures)) c.loop-k.invariant.lanes c.try_group_in_place.ensures.lanes
     (λ e. c.if-failed-ne0.true (ap (bit_and c.try_group_in_place.result) c.word.ensures ∙ e)))
 
@@ -43,7 +43,7 @@ returns-then-failed-ne0-2-clause-err g c =
     let new = g.S.IndexedSource.lanes c.try_group_in_place-2.new.values in
     let len = c.len-len.result in
     let k : c.loop-k.k ≡ len / 64 = omega arith in
-    rw c.word-2.ensures
+    rw (c.failed_lane-then-failed-ne0-2.ensures, c.word-2.ensures)
     (tried_fails _ c.args.f c.loop-k.f c.try_group_in_place-2.new.f (λ answer. g.S.IndexedSink.reads_back (unwrap_or answer g.S.Write.LaneDefault.its_default)) c.args.mask.now (len / 64) (len % 64) c.try_group_in_place-2.result old now new (omega arith) (omega (arith, c.len-len.ensures)) (rw k at c.loop-k.invariant.lanes) c.try_group_in_place-2.ensures.lanes
     (λ e. c.if-failed-ne0-2.true (ap (bit_and c.try_group_in_place-2.result) c.word-2.ensures ∙ e)))
 

@@ -1,5 +1,4 @@
 use Rattle.std.proofs.Common.{◌∙◌, ap, map}
-use Rattle.vortex_types.specs.Row.{Column}
 use Rattle.vortex_array.specs.ColumnOf.{column_of}
 use Rattle.vortex_query.specs.Shown.{one_value}
 use Rattle.vortex_query.proofs.Lines.{one_kind, one_rows}

@@ -1,22 +1,23 @@
-use Rattle.std.proofs.Common.{◌≡◌, ◌∙◌, rules, true}
-use Rattle.std.specs.Result.{is_ok}
+use Rattle.std.proofs.Common.{◌∙◌}
 use Rattle.vortex_table.specs.Given.{contents_of}
+use Rattle.vortex_io.specs.declared.order.Order.TheVariants.{First}
 use Rattle.vortex_query.specs.Numbered.{column_seen}
-use Rattle.vortex_query.proofs.Cut.{cleared_contents, spelled_parts}
+use Rattle.vortex_query.proofs.Cut.{cleared_contents, cleared_fresh, spelled_parts}
 use Rattle.vortex_query.proofs.table_text.table_of.Goals as goal
 
 pub returns-in-Ok-clause-ok : goal.returns-in-Ok-clause-ok
 returns-in-Ok-clause-ok c =
-    let good : is_ok c.push.result ≡ true = search rules in
-    let items = rw (good, c.new-columns.ensures.items) at c.push.ensures.items in
     let t = c.in-Ok.ensures in
     let parts = c.in_ok-partitions.ensures in
     let column = column_seen c.in_ok-name.field-0 in
-    let text = c.as_slice.ensures.value in
+    let text = c.deref.ensures.value in
     spelled_parts c.args.bytes.now column c.in-Ok.table.columns c.in-Ok.table.partitions (contents_of c.in-Ok.table.sources) c.in_ok-name.ensures.ok
-    (t.columns ∙ items)
+    (t.columns ∙ c.in_ok-columns.ensures)
     (t.partitions ∙ rw (c.requires, text) at parts.partitions)
     (cleared_contents c.in_ok-partitions.field-0.sources.items c.in-Ok.table.sources t.sources ∙ rw (c.requires, text) at parts.contents)
+
+pub returns-in-Ok-clause-fresh : goal.returns-in-Ok-clause-fresh
+returns-in-Ok-clause-fresh c = rw c.requires (cleared_fresh First c.in_ok-partitions.field-0.sources.items c.in-Ok.table.sources c.in-Ok.ensures.sources c.in_ok-partitions.ensures.fresh)
 
 pub returns-in-Ok-clause-fits : goal.returns-in-Ok-clause-fits
 returns-in-Ok-clause-fits c =

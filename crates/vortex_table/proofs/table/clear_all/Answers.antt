@@ -11,4 +11,4 @@ returns g c =
     let e : length c.deref_mut-source-items.result.now ≡ c.args.sources.now.len = c.deref_mut-source-items.ensures.len in
     let f : length c.deref_mut-source-items.result.now ≡ length old = ap length c.deref_mut-source-items.ensures.value in
     rw (written-over c.args.sources.now.len new old inv.long (sym e ∙ f ∙ sym inv.long))
-    (zipped-same (IsCleared g.S.IoSource.outstanding g.S.IoSource.content g.S.IoSource.journal g.S.IoSource.faults) old new (sym inv.long) (λ k d l. inv.cleared k d (omega (arith, l, f, c.loop-source-test.false))))
+    (zipped-same (IsCleared g.S.IoSource.outstanding g.S.IoSource.content g.S.IoSource.journal g.S.IoSource.faults g.S.IoSource.clears) old new (sym inv.long) (λ k d l. inv.cleared k d (omega (arith, l, f, c.loop-source-test.false))))

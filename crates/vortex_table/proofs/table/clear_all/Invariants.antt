@@ -5,6 +5,6 @@ use Rattle.vortex_table.proofs.table.clear_all.Given as goal
 abbrev pub invariant-loop-source : goal.invariant-loop-source
 invariant-loop-source g l = record {
   long : length l.source-items ≡ length l.fn.sources.items;
-  cleared : (k : ℕ) (d : g.row.S.Denot) → k < l.source-index → IsCleared g.S.IoSource.outstanding g.S.IoSource.content g.S.IoSource.journal g.S.IoSource.faults (get_or l.fn.sources.items k d) (get_or l.source-items k d);
+  cleared : (k : ℕ) (d : g.row.S.Denot) → k < l.source-index → IsCleared g.S.IoSource.outstanding g.S.IoSource.content g.S.IoSource.journal g.S.IoSource.faults g.S.IoSource.clears (get_or l.fn.sources.items k d) (get_or l.source-items k d);
   others : (k : ℕ) (d : g.row.S.Denot) → l.source-index ≤ k → get_or l.source-items k d ≡ get_or l.fn.sources.items k d;
 }

@@ -1,4 +1,4 @@
-use Rattle.std.proofs.Common.{rules, arith, ◌<◌, ◌≡◌, ◌∙◌, ap, length, get_or, [], false}
+use Rattle.std.proofs.Common.{rules, arith, ◌<◌, length}
 use Rattle.std.specs.Ordering.{int_cmp}
 use Rattle.vortex_comparisons.proofs.Pairs.{pair-inside, pair-at}
 use Rattle.vortex_comparisons.proofs.decimals.UnscaledPairsIndexedSource.get.Goals as goal

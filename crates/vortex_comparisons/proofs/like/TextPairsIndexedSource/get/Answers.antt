@@ -1,4 +1,4 @@
-use Rattle.std.proofs.Common.{arith, ◌<◌, ◌≡◌, ◌∙◌, ap, length, get_or, []}
+use Rattle.std.proofs.Common.{arith, ◌<◌, ◌∙◌, ap, length, get_or, []}
 use Rattle.vortex_types.specs.Matches.{matches}
 use Rattle.vortex_comparisons.proofs.Pairs.{pair-inside, pair-at}
 use Rattle.vortex_comparisons.proofs.like.TextPairsIndexedSource.get.Goals as goal

@@ -1,4 +1,4 @@
-use Rattle.std.proofs.Common.{rules, arith, ◌<◌, ◌≡◌, ◌∙◌, ap, length, get_or, [], false}
+use Rattle.std.proofs.Common.{arith, ◌<◌, ◌∙◌, ap, length, get_or, []}
 use Rattle.std.specs.Ordering.{nat_cmp}
 use Rattle.std.specs.Cmp.Lexicographic.{slice_cmp}
 use Rattle.vortex_comparisons.proofs.Pairs.{pair-inside, pair-at}

@@ -1,4 +1,4 @@
-use Rattle.std.proofs.Common.{◌∙◌, sym}
+use Rattle.std.proofs.Common.{sym}
 use Rattle.std.specs.Ordering.{int_cmp}
 use Rattle.std.proofs.lemmas.Simd.{length-zip2}
 use Rattle.vortex_comparisons.proofs.numbers.NumberPairsIndexedSource.len.Goals as goal

@@ -1,4 +1,4 @@
-use Rattle.std.proofs.Common.{rules, arith, ◌<◌, ◌≡◌, ◌∙◌, ap, length, get_or, [], false}
+use Rattle.std.proofs.Common.{arith, ◌<◌, ◌∙◌, ap, length, get_or, false}
 use Rattle.std.specs.Ordering.{bool_cmp}
 use Rattle.vortex_comparisons.proofs.Pairs.{pair-inside, pair-at}
 use Rattle.vortex_comparisons.proofs.truths.BitPairsIndexedSource.get.Goals as goal

@@ -8,6 +8,9 @@ scan_sources-requires-clause-held c =
     let requires = rw (← c.self.view_is) at c.requires in
     rw c.as_slice.ensures.value (first_held c.self.inside.columns.items c.self.inside.partitions.items c.self.inside.sources.items requires.column c.self.invariant.described.fits requires.fits)
 
+pub scan_sources-requires-clause-arrives : goal.scan_sources-requires-clause-arrives
+scan_sources-requires-clause-arrives c = let requires = rw (← c.self.view_is) at c.requires in requires.arrives
+
 pub invariant_of-self : goal.invariant_of-self
 invariant_of-self c =
     let old = c.self.inside.sources.items in

@@ -5,7 +5,7 @@ use Rattle.vortex_table.proofs.table.Table.try_new.Goals as goal
 
 pub invariant_of-result : goal.invariant_of-result
 invariant_of-result g c =
-    let R = IsCleared g.S.IoSource.outstanding g.S.IoSource.content g.S.IoSource.journal g.S.IoSource.faults in
+    let R = IsCleared g.S.IoSource.outstanding g.S.IoSource.content g.S.IoSource.journal g.S.IoSource.faults g.S.IoSource.clears in
     let long = zipped-long R c.args.sources.items c.clear_all.new.sources.items c.clear_all.ensures in
     let count : length c.as_slice-count.result.now ≡ length c.args.sources.items = ap length c.as_slice-count.ensures.value in
     let described = c.in-None.ensures.none in

@@ -1,3 +1,0 @@
-// Columns of each kind, by worked rows.
-mod kinds;
-mod three_values;

@@ -1,3 +1,0 @@
-// Worked cases.
-mod patterns;
-mod values;

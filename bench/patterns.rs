@@ -1,4 +1,4 @@
-// Times the patterns of `vortex_predicates` over many texts beside stock Rust of the same job. Built and run by
+// Times the patterns of `vortex_array_predicates` over many texts beside stock Rust of the same job. Built and run by
 // `bench/patterns`.
 //
 // The library first tests once that all bytes are text. What that takes is timed by a call with no texts, and not counted.

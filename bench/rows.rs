@@ -1,4 +1,4 @@
-// Times the row operations of `vortex_rows` beside stock Rust loops of the same job. Built and run by `bench/rows`.
+// Times the row operations of `vortex_array_rows` beside stock Rust loops of the same job. Built and run by `bench/rows`.
 mod memory;
 mod stock;
 

@@ -2,9 +2,9 @@
 ghost use Rattle.std.specs.Prelude.{◌≡◌, ◌≤◌, IsTrue, length};
 ghost use Rattle.vortex_buffer.specs.Mask.{mask_bits};
 ghost use Rattle.vortex_array.specs.ColumnOf.{column_of};
-ghost use Rattle.vortex_columns.specs.ByteRows.{is_text_type};
-ghost use Rattle.vortex_selections.specs.Selected.{NamesRows};
-ghost use Rattle.vortex_types.specs.Typed.{same_apart_from_nullability};
+ghost use Rattle.vortex_array_kinds.specs.ByteRows.{is_text_type};
+ghost use Rattle.vortex_array_select.specs.Selected.{NamesRows};
+ghost use Rattle.vortex_array_types.specs.Typed.{same_apart_from_nullability};
 
 use crate::telling::{Told, told_answers, told_of};
 use std::alloc::{AllocError, Global};

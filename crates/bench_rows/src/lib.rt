@@ -5,8 +5,8 @@
 ghost use Rattle.std.specs.Prelude.{◌≡◌, ◌≤◌, ◌<◌, ◌*◌, All, length, map};
 
 use std::alloc::Global;
+use vortex_array_rows::{filter_items, slice_items, take_items};
 use vortex_buffer::{BitBuffer, Buffer, Mask};
-use vortex_rows::{filter_items, slice_items, take_items};
 
 // The number of values, and the last of them.
 fn told(values: &Buffer<u64>, last: &mut u64) -> usize {

@@ -6,24 +6,24 @@ use Rattle.std.proofs.lemmas.Bool.{false≢true}
 use Rattle.std.proofs.lemmas.List.{length-map, length-replicate}
 use Rattle.std.proofs.lemmas.Simd.{length-zip2, zip2_splat}
 use Rattle.vortex_buffer.specs.declared.compare_operator.CompareOperator.{CompareOperator}
-use Rattle.vortex_types.specs.Order.{compares}
-use Rattle.vortex_types.specs.Row.{Column, fits_type, is_nullable, nullability}
-use Rattle.vortex_types.specs.Truth.{both, all_three, lies_between, lower_operator, upper_operator}
-use Rattle.vortex_types.specs.Typed.{same_apart_from_nullability}
-use Rattle.vortex_types.specs.declared.filter.BetweenOptions.{BetweenOptions}
-use Rattle.vortex_types.specs.declared.types.DType.{DType}
-use Rattle.vortex_types.specs.declared.types.DType.TheVariants as dtype
-use Rattle.vortex_types.specs.declared.types.Nullability.{Nullability}
-use Rattle.vortex_types.specs.declared.types.Nullability.TheVariants as nulls
-use Rattle.vortex_types.specs.declared.scalar.Value.{Value}
-use Rattle.vortex_columns.specs.ByteRows.{is_bytes_type}
-use Rattle.vortex_columns.specs.Kinds.{constant_column}
-use Rattle.vortex_columns.specs.Parts.{ConstantParts}
-use Rattle.vortex_columns.specs.Truths.{answer_in, both_true, bounded, compared, either, either_column, joined_strictly, truth_row, truths}
-use Rattle.vortex_columns.proofs.BothValid.{either_nullable}
-use Rattle.vortex_columns.proofs.TruthColumns.{column}
-use Rattle.vortex_columns.proofs.TruthLaws.{answers-back}
-use Rattle.vortex_comparisons.specs.Repeated.{repeated}
+use Rattle.vortex_array_types.specs.Order.{compares}
+use Rattle.vortex_array_types.specs.Row.{Column, fits_type, is_nullable, nullability}
+use Rattle.vortex_array_types.specs.Truth.{both, all_three, lies_between, lower_operator, upper_operator}
+use Rattle.vortex_array_types.specs.Typed.{same_apart_from_nullability}
+use Rattle.vortex_array_types.specs.declared.filter.BetweenOptions.{BetweenOptions}
+use Rattle.vortex_array_types.specs.declared.types.DType.{DType}
+use Rattle.vortex_array_types.specs.declared.types.DType.TheVariants as dtype
+use Rattle.vortex_array_types.specs.declared.types.Nullability.{Nullability}
+use Rattle.vortex_array_types.specs.declared.types.Nullability.TheVariants as nulls
+use Rattle.vortex_array_types.specs.declared.scalar.Value.{Value}
+use Rattle.vortex_array_kinds.specs.ByteRows.{is_bytes_type}
+use Rattle.vortex_array_kinds.specs.Kinds.{constant_column}
+use Rattle.vortex_array_kinds.specs.Parts.{ConstantParts}
+use Rattle.vortex_array_kinds.specs.Truths.{answer_in, both_true, bounded, compared, either, either_column, joined_strictly, truth_row, truths}
+use Rattle.vortex_array_kinds.proofs.BothValid.{either_nullable}
+use Rattle.vortex_array_kinds.proofs.TruthColumns.{column}
+use Rattle.vortex_array_kinds.proofs.TruthLaws.{answers-back}
+use Rattle.vortex_array_compare.specs.Repeated.{repeated}
 
 -- there are as many answers as rows
 pub length-compared : (operator : CompareOperator) (a b : Column) → length a.rows ≡ length b.rows → length (compared operator a b).rows ≡ length a.rows

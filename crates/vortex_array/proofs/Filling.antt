@@ -3,24 +3,24 @@ use Rattle.std.proofs.Common.{ℕ, zero, suc, ◌≡◌, ◌==◌, Bool, true, f
 use Rattle.std.specs.Prelude.{IsTrue, slice_index_or}
 use Rattle.std.specs.Ordering.{int_eq}
 use Rattle.std.proofs.lemmas.Bool.Decides.{Decides-eqb, Decides-int_eq}
-use Rattle.vortex_types.specs.Digits.{Digits}
-use Rattle.vortex_types.specs.Row.{Column, TypedRow, in_width, nullability, value_fits}
-use Rattle.vortex_types.specs.Typed.{same_apart_from_nullability, width_number}
-use Rattle.vortex_types.specs.declared.types.Nullability.{Nullability}
-use Rattle.vortex_types.specs.declared.types.PType.{PType}
-use Rattle.vortex_types.specs.declared.types.PType.TheVariants.{U8, U16, U32, U64, I8, I16, I32, I64}
-use Rattle.vortex_types.specs.declared.types.DType.{DType}
-use Rattle.vortex_types.specs.declared.types.DType.TheVariants as dtype
-use Rattle.vortex_types.specs.declared.scalar.Value.{Value}
-use Rattle.vortex_types.specs.declared.scalar.Value.TheVariants as value
-use Rattle.vortex_columns.specs.ByteRows.{bytes_value, is_bytes_type}
-use Rattle.vortex_columns.specs.Kinds.{constant_column}
-use Rattle.vortex_columns.specs.Parts.{ConstantParts}
-use Rattle.vortex_selections.specs.Selected.{row_at, taken}
-use Rattle.vortex_selections.specs.SelectedParts.{index_column}
-use Rattle.vortex_columns.specs.declared.validity.Validity.TheVariants.{NonNullable}
-use Rattle.vortex_selections.proofs.SelectedRows.{column_with, same-column}
-use Rattle.vortex_casts.specs.Filled.{filled, filled_row}
+use Rattle.vortex_array_types.specs.Digits.{Digits}
+use Rattle.vortex_array_types.specs.Row.{Column, TypedRow, in_width, nullability, value_fits}
+use Rattle.vortex_array_types.specs.Typed.{same_apart_from_nullability, width_number}
+use Rattle.vortex_array_types.specs.declared.types.Nullability.{Nullability}
+use Rattle.vortex_array_types.specs.declared.types.PType.{PType}
+use Rattle.vortex_array_types.specs.declared.types.PType.TheVariants.{U8, U16, U32, U64, I8, I16, I32, I64}
+use Rattle.vortex_array_types.specs.declared.types.DType.{DType}
+use Rattle.vortex_array_types.specs.declared.types.DType.TheVariants as dtype
+use Rattle.vortex_array_types.specs.declared.scalar.Value.{Value}
+use Rattle.vortex_array_types.specs.declared.scalar.Value.TheVariants as value
+use Rattle.vortex_array_kinds.specs.ByteRows.{bytes_value, is_bytes_type}
+use Rattle.vortex_array_kinds.specs.Kinds.{constant_column}
+use Rattle.vortex_array_kinds.specs.Parts.{ConstantParts}
+use Rattle.vortex_array_select.specs.Selected.{row_at, taken}
+use Rattle.vortex_array_select.specs.SelectedParts.{index_column}
+use Rattle.vortex_array_kinds.specs.declared.validity.Validity.TheVariants.{NonNullable}
+use Rattle.vortex_array_select.proofs.SelectedRows.{column_with, same-column}
+use Rattle.vortex_array_cast.specs.Filled.{filled, filled_row}
 use Rattle.vortex_array.proofs.Compared.{alike-bytes}
 use Rattle.vortex_array.specs.Single.{bytes_held, number_held, truth_held, unscaled_held}
 

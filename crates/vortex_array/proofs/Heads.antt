@@ -2,7 +2,7 @@
 use Rattle.std.proofs.Common.{ℕ, zero, suc, ◌≤◌, List, [], ◌∷◌, length, ap, ◌∙◌, arith}
 use Rattle.std.specs.Prelude.{All}
 use Rattle.std.specs.List.{AllZip}
-use Rattle.vortex_rows.proofs.Slices.{length-slice}
+use Rattle.vortex_array_rows.proofs.Slices.{length-slice}
 use Rattle.vortex_array.specs.declared.arrays.Array.{Array}
 use Rattle.vortex_array.specs.Batch.{HasRows}
 use Rattle.vortex_array.specs.ColumnOf.{column_of}

@@ -1,12 +1,12 @@
 -- When indices are below a bound.
 use Rattle.std.proofs.Common.{ℕ, zero, suc, ◌<◌, Bool, true, false, List, [], ◌∷◌, map, refl, subst, arith}
 use Rattle.std.specs.Prelude.{pos, All}
-use Rattle.vortex_types.specs.Row.{Column}
-use Rattle.vortex_rows.specs.Taken.{SetPlacesBelow}
-use Rattle.vortex_selections.specs.Selected.{IndexBelow}
-use Rattle.vortex_selections.specs.SelectedParts.{PlacesBelow, index_column}
-use Rattle.vortex_columns.specs.declared.validity.Validity.{Validity}
-use Rattle.vortex_columns.specs.declared.validity.Validity.TheVariants.{NonNullable, AllValid, AllInvalid, Bits}
+use Rattle.vortex_array_types.specs.Row.{Column}
+use Rattle.vortex_array_rows.specs.Taken.{SetPlacesBelow}
+use Rattle.vortex_array_select.specs.Selected.{IndexBelow}
+use Rattle.vortex_array_select.specs.SelectedParts.{PlacesBelow, index_column}
+use Rattle.vortex_array_kinds.specs.declared.validity.Validity.{Validity}
+use Rattle.vortex_array_kinds.specs.declared.validity.Validity.TheVariants.{NonNullable, AllValid, AllInvalid, Bits}
 use Rattle.vortex_array.specs.Index.{number_column}
 use Rattle.vortex_array.proofs.TakenAt.{same-indices}
 

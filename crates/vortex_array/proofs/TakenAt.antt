@@ -2,24 +2,24 @@
 use Rattle.std.proofs.Common.{ℕ, zero, suc, ◌<◌, ◌≡◌, Bool, true, false, cond, List, [], ◌∷◌, length, get_or, map, replicate, refl, sym, ap, subst, ◌∙◌, arith, Option, Some, None}
 use Rattle.std.specs.Prelude.{ℤ, pos, negsuc, IsTrue, All}
 use Rattle.std.proofs.lemmas.List.{get_or-replicate, length-map, length-replicate}
-use Rattle.vortex_types.specs.Row.{Column, TypedRow, fits_type, in_width, is_nullable, value_fits}
-use Rattle.vortex_types.specs.Widths.{has_no_sign, nullable_form}
-use Rattle.vortex_types.specs.declared.types.PType.{PType}
-use Rattle.vortex_types.specs.declared.types.PType.TheVariants.{U8, U16, U32, U64, I8, I16, I32, I64}
-use Rattle.vortex_types.specs.declared.types.DType.{DType}
-use Rattle.vortex_types.specs.declared.types.DType.TheVariants as dtype
-use Rattle.vortex_types.specs.declared.types.PType.TheVariants as width
-use Rattle.vortex_types.specs.declared.scalar.Value.{Value}
-use Rattle.vortex_types.specs.declared.scalar.Value.TheVariants as value
-use Rattle.vortex_rows.specs.Taken.{SetPlacesBelow, taken_or}
-use Rattle.vortex_columns.specs.Kinds.{constant_column}
-use Rattle.vortex_columns.specs.Validities.{is_as_long, nullability_of, rows_under}
-use Rattle.vortex_selections.specs.Selected.{IndexBelow, is_index_type, row_at, taken}
-use Rattle.vortex_selections.specs.SelectedParts.{PlacesBelow, index_column}
-use Rattle.vortex_columns.specs.declared.validity.Validity.{Validity}
-use Rattle.vortex_columns.specs.declared.validity.Validity.TheVariants.{NonNullable, AllValid, AllInvalid, Bits}
-use Rattle.vortex_selections.proofs.SelectedRows.{column_with, same-column}
-use Rattle.vortex_selections.proofs.TakenRows.{at_nulls, at_places, at_set, index_rows, places-below}
+use Rattle.vortex_array_types.specs.Row.{Column, TypedRow, fits_type, in_width, is_nullable, value_fits}
+use Rattle.vortex_array_types.specs.Widths.{has_no_sign, nullable_form}
+use Rattle.vortex_array_types.specs.declared.types.PType.{PType}
+use Rattle.vortex_array_types.specs.declared.types.PType.TheVariants.{U8, U16, U32, U64, I8, I16, I32, I64}
+use Rattle.vortex_array_types.specs.declared.types.DType.{DType}
+use Rattle.vortex_array_types.specs.declared.types.DType.TheVariants as dtype
+use Rattle.vortex_array_types.specs.declared.types.PType.TheVariants as width
+use Rattle.vortex_array_types.specs.declared.scalar.Value.{Value}
+use Rattle.vortex_array_types.specs.declared.scalar.Value.TheVariants as value
+use Rattle.vortex_array_rows.specs.Taken.{SetPlacesBelow, taken_or}
+use Rattle.vortex_array_kinds.specs.Kinds.{constant_column}
+use Rattle.vortex_array_kinds.specs.Validities.{is_as_long, nullability_of, rows_under}
+use Rattle.vortex_array_select.specs.Selected.{IndexBelow, is_index_type, row_at, taken}
+use Rattle.vortex_array_select.specs.SelectedParts.{PlacesBelow, index_column}
+use Rattle.vortex_array_kinds.specs.declared.validity.Validity.{Validity}
+use Rattle.vortex_array_kinds.specs.declared.validity.Validity.TheVariants.{NonNullable, AllValid, AllInvalid, Bits}
+use Rattle.vortex_array_select.proofs.SelectedRows.{column_with, same-column}
+use Rattle.vortex_array_select.proofs.TakenRows.{at_nulls, at_places, at_set, index_rows, places-below}
 use Rattle.vortex_array.specs.Index.{nulls_of_index, number_column, place_of, place_of_index}
 
 -- places as numbers are the numbers of places

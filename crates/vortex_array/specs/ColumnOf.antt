@@ -1,9 +1,9 @@
 -- The column that an array stands for.
 use Rattle.std.specs.Prelude.{Bool, true, false}
-use Rattle.vortex_types.specs.Row.{Column}
+use Rattle.vortex_array_types.specs.Row.{Column}
 use Rattle.vortex_array.specs.declared.arrays.Array.{Array}
 use Rattle.vortex_array.specs.declared.arrays.Array.TheVariants.{Bool as Bools, Primitive, Decimal, VarBinView, Constant}
-pub use Rattle.vortex_columns.specs.Kinds.{bool_column, primitive_column, decimal_column, constant_column, nullable_column}
+pub use Rattle.vortex_array_kinds.specs.Kinds.{bool_column, primitive_column, decimal_column, constant_column, nullable_column}
 
 -- the type and the rows of an array
 abbrev pub column_of : Array → Column

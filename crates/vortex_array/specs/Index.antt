@@ -1,13 +1,13 @@
 -- Rows as indices.
 use Rattle.std.specs.Prelude.{ℕ, ℤ, pos, cond, is_some, List, map, Option, Some}
-use Rattle.vortex_types.specs.Row.{Column, TypedRow, is_nullable}
-use Rattle.vortex_types.specs.declared.scalar.Value.{Value}
-use Rattle.vortex_types.specs.declared.scalar.Value.TheVariants as value
-use Rattle.vortex_types.specs.declared.types.DType.TheVariants as dtype
-use Rattle.vortex_types.specs.declared.types.PType.TheVariants as width
-use Rattle.vortex_columns.specs.Validities.{nullability_of, rows_under}
-use Rattle.vortex_columns.specs.declared.validity.Validity.{Validity}
-use Rattle.vortex_columns.specs.declared.validity.Validity.TheVariants.{NonNullable, AllValid, AllInvalid}
+use Rattle.vortex_array_types.specs.Row.{Column, TypedRow, is_nullable}
+use Rattle.vortex_array_types.specs.declared.scalar.Value.{Value}
+use Rattle.vortex_array_types.specs.declared.scalar.Value.TheVariants as value
+use Rattle.vortex_array_types.specs.declared.types.DType.TheVariants as dtype
+use Rattle.vortex_array_types.specs.declared.types.PType.TheVariants as width
+use Rattle.vortex_array_kinds.specs.Validities.{nullability_of, rows_under}
+use Rattle.vortex_array_kinds.specs.declared.validity.Validity.{Validity}
+use Rattle.vortex_array_kinds.specs.declared.validity.Validity.TheVariants.{NonNullable, AllValid, AllInvalid}
 
 -- whether an index is null, and its type has nulls
 abbrev pub nulls_of_index : TypedRow → Validity

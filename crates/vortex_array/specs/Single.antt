@@ -1,11 +1,11 @@
 -- What one row holds.
 use Rattle.std.specs.Prelude.{ℕ, ℤ, pos, Bool, true, false, List, Option, Some, None}
-use Rattle.vortex_types.specs.declared.types.Nullability.{Nullability}
-use Rattle.vortex_types.specs.declared.types.Nullability.TheVariants.{NonNullable as WithoutNulls, Nullable}
-use Rattle.vortex_types.specs.declared.scalar.Value.{Value}
-use Rattle.vortex_types.specs.declared.scalar.Value.TheVariants as value
-use Rattle.vortex_columns.specs.declared.validity.Validity.{Validity}
-use Rattle.vortex_columns.specs.declared.validity.Validity.TheVariants.{NonNullable, AllValid, AllInvalid}
+use Rattle.vortex_array_types.specs.declared.types.Nullability.{Nullability}
+use Rattle.vortex_array_types.specs.declared.types.Nullability.TheVariants.{NonNullable as WithoutNulls, Nullable}
+use Rattle.vortex_array_types.specs.declared.scalar.Value.{Value}
+use Rattle.vortex_array_types.specs.declared.scalar.Value.TheVariants as value
+use Rattle.vortex_array_kinds.specs.declared.validity.Validity.{Validity}
+use Rattle.vortex_array_kinds.specs.declared.validity.Validity.TheVariants.{NonNullable, AllValid, AllInvalid}
 
 -- its truth value, false where it has none
 abbrev pub truth_held : Option Value → Bool

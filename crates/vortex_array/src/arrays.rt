@@ -1,14 +1,14 @@
 // Columns of any kind.
 ghost use Rattle.std.specs.Prelude.{◌≡◌, ◌<◌, ◌==◌, IsTrue, IfOk, None, is_some, length, map, option_map, slice_index_or};
 ghost use Rattle.vortex_buffer.specs.Mask.{mask_bits};
-ghost use Rattle.vortex_types.specs.Row.{fits_type};
-ghost use Rattle.vortex_types.specs.Seen.{value_seen};
+ghost use Rattle.vortex_array_types.specs.Row.{fits_type};
+ghost use Rattle.vortex_array_types.specs.Seen.{value_seen};
 ghost use Rattle.vortex_array.specs.ColumnOf.{column_of, is_plain as is_plain_array, nullable_column};
 
 use std::alloc::{AllocError, Global};
+use vortex_array_kinds::{BoolArray, ConstantArray, DecimalArray, PrimitiveArray, VarBinViewArray};
+use vortex_array_types::{DType, Scalar, Value, ValueRef};
 use vortex_buffer::Mask;
-use vortex_columns::{BoolArray, ConstantArray, DecimalArray, PrimitiveArray, VarBinViewArray};
-use vortex_types::{DType, Scalar, Value, ValueRef};
 
 /// A column of any kind.
 pub enum Array {

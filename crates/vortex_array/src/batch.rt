@@ -4,7 +4,7 @@ ghost use Rattle.vortex_array.specs.Batch.{HasRows};
 
 use crate::arrays::Array;
 use std::marker::Model;
-use vortex_columns::LengthMismatch;
+use vortex_array_kinds::LengthMismatch;
 
 /// Some rows in columns of one length. Without columns the number of rows stands by itself.
 pub struct RecordBatch {

@@ -1,25 +1,25 @@
 // Columns of any kind compared row by row.
 ghost use Rattle.std.specs.Prelude.{◌≡◌, IfOk, IsTrue, None, Some, length, option_map, replicate};
-ghost use Rattle.vortex_types.specs.Order.{accepts, value_cmp};
-ghost use Rattle.vortex_types.specs.Row.{nullability, value_fits};
-ghost use Rattle.vortex_types.specs.Seen.{value_seen};
-ghost use Rattle.vortex_types.specs.Truth.{lower_operator as operator_of_lower, upper_operator as operator_of_upper};
-ghost use Rattle.vortex_types.specs.Typed.{same_apart_from_nullability};
-ghost use Rattle.vortex_types.specs.declared.types.Nullability.TheVariants.{Nullable};
-ghost use Rattle.vortex_columns.specs.Truths.{bounded, compared, either, truths};
-ghost use Rattle.vortex_comparisons.specs.Repeated.{repeated};
-ghost use Rattle.vortex_comparisons.specs.Turned.{turned};
+ghost use Rattle.vortex_array_types.specs.Order.{accepts, value_cmp};
+ghost use Rattle.vortex_array_types.specs.Row.{nullability, value_fits};
+ghost use Rattle.vortex_array_types.specs.Seen.{value_seen};
+ghost use Rattle.vortex_array_types.specs.Truth.{lower_operator as operator_of_lower, upper_operator as operator_of_upper};
+ghost use Rattle.vortex_array_types.specs.Typed.{same_apart_from_nullability};
+ghost use Rattle.vortex_array_types.specs.declared.types.Nullability.TheVariants.{Nullable};
+ghost use Rattle.vortex_array_kinds.specs.Truths.{bounded, compared, either, truths};
+ghost use Rattle.vortex_array_compare.specs.Repeated.{repeated};
+ghost use Rattle.vortex_array_compare.specs.Turned.{turned};
 ghost use Rattle.vortex_array.specs.ColumnOf.{bool_column, column_of, constant_column, decimal_column, is_plain, primitive_column};
 
 use crate::arrays::Array;
 use std::alloc::{AllocError, Global};
-use vortex_columns::{BoolArray, ConstantArray, DecimalArray, PrimitiveArray, VarBinViewArray};
-use vortex_comparisons::{
+use vortex_array_compare::{
     compare_decimal_value, compare_decimals, compare_list_value, compare_lists,
     compare_number_value, compare_numbers, compare_truth_value, compare_truths, equal_answers,
     null_answers, turned_operator,
 };
-use vortex_types::{
+use vortex_array_kinds::{BoolArray, ConstantArray, DecimalArray, PrimitiveArray, VarBinViewArray};
+use vortex_array_types::{
     BetweenOptions, CompareOperator, DType, Nullability, StrictComparison, ValueRef, compares,
 };
 

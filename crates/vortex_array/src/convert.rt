@@ -1,14 +1,14 @@
 // Columns of any kind cast to another type.
 ghost use Rattle.std.specs.Prelude.{◌≡◌, IfOk, IfErr, OnOk};
 ghost use Rattle.vortex_array.specs.ColumnOf.{column_of};
-ghost use Rattle.vortex_casts.specs.Casts.{IsCast, RefusesCast, cast_column};
+ghost use Rattle.vortex_array_cast.specs.Casts.{IsCast, RefusesCast, cast_column};
 
 use crate::arrays::Array;
 use std::alloc::Global;
-use vortex_casts::{
+use vortex_array_cast::{
     CastError, cast_bools, cast_constant, cast_decimals, cast_primitive, cast_texts,
 };
-use vortex_types::DType;
+use vortex_array_types::DType;
 
 impl Array {
     /// The same rows, of this type.

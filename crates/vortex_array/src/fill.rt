@@ -1,20 +1,20 @@
 // Columns of any kind whose null rows get a value.
 ghost use Rattle.std.specs.Prelude.{◌≡◌, ◌∷◌, [], IfOk, IsTrue, None, Some, is_some, length, replicate, slice_index_or};
-ghost use Rattle.vortex_types.specs.Row.{value_fits};
-ghost use Rattle.vortex_types.specs.Seen.{value_seen};
-ghost use Rattle.vortex_types.specs.Typed.{same_apart_from_nullability};
-ghost use Rattle.vortex_casts.specs.Filled.{filled, filled_row};
+ghost use Rattle.vortex_array_types.specs.Row.{value_fits};
+ghost use Rattle.vortex_array_types.specs.Seen.{value_seen};
+ghost use Rattle.vortex_array_types.specs.Typed.{same_apart_from_nullability};
+ghost use Rattle.vortex_array_cast.specs.Filled.{filled, filled_row};
 ghost use Rattle.vortex_array.specs.ColumnOf.{bool_column, column_of, constant_column, decimal_column, is_plain as is_plain_array, primitive_column};
 
 use crate::arrays::Array;
 use crate::single::{bytes_in, number_in, one_row, truth_in, unscaled_in};
 use crate::take::{equal_places, take_plain};
 use std::alloc::{AllocError, Global};
-use vortex_casts::{fill_bools, fill_decimals, fill_primitive, fill_texts};
-use vortex_columns::{
+use vortex_array_cast::{fill_bools, fill_decimals, fill_primitive, fill_texts};
+use vortex_array_kinds::{
     BoolArray, ConstantArray, DecimalArray, PrimitiveArray, Validity, VarBinViewArray,
 };
-use vortex_types::{DType, Scalar, ValueRef};
+use vortex_array_types::{DType, Scalar, ValueRef};
 
 impl Array {
     /// The same rows, and the fill in each row that is null, of the fill's type. The fill is not null, and of the array's

@@ -1,17 +1,17 @@
 // Whether a column can be the indices of rows.
 ghost use Rattle.std.specs.Prelude.{◌≡◌, ◌↔◌, ◌&&◌, All, IsTrue, int_le, int_lt, length, map, option_map, pos};
-ghost use Rattle.vortex_types.specs.Seen.{value_seen};
-ghost use Rattle.vortex_selections.specs.Selected.{IndexBelow, NamesRows, is_index_type as is_type_of_indices};
-ghost use Rattle.vortex_selections.specs.SelectedParts.{PlacesBelow};
-ghost use Rattle.vortex_columns.specs.Validities.{is_as_long};
+ghost use Rattle.vortex_array_types.specs.Seen.{value_seen};
+ghost use Rattle.vortex_array_select.specs.Selected.{IndexBelow, NamesRows, is_index_type as is_type_of_indices};
+ghost use Rattle.vortex_array_select.specs.SelectedParts.{PlacesBelow};
+ghost use Rattle.vortex_array_kinds.specs.Validities.{is_as_long};
 ghost use Rattle.vortex_array.specs.ColumnOf.{column_of, constant_column, primitive_column};
 ghost use Rattle.vortex_array.specs.Index.{number_column};
 
 use crate::arrays::Array;
+use vortex_array_kinds::{ConstantArray, PrimitiveArray, PrimitiveBuffer, Validity};
+use vortex_array_rows::{RowIndex, places_below, set_places_below};
+use vortex_array_types::{DType, ValueRef};
 use vortex_buffer::Buffer;
-use vortex_columns::{ConstantArray, PrimitiveArray, PrimitiveBuffer, Validity};
-use vortex_rows::{Place, places_below, set_places_below};
-use vortex_types::{DType, ValueRef};
 
 impl Array {
     /// Whether these are indices of so many rows, which is what `take` asks of its indices: unsigned whole numbers, each
@@ -47,7 +47,7 @@ fn numbers_name_rows(indices: &PrimitiveArray, rows: usize) -> bool
 }
 
 // Whether each number of one width that is not null is below a bound.
-fn items_below<P: Place>(places: &Buffer<P>, nulls: &Validity, bound: usize) -> bool
+fn items_below<P: RowIndex>(places: &Buffer<P>, nulls: &Validity, bound: usize) -> bool
     requires { IsTrue (is_as_long nulls.now (length (map (λ p. pos (P.place p)) places.now))) }
     ensures { IsTrue result ↔ All (IndexBelow bound) (number_column nulls.now (map (λ p. pos (P.place p)) places.now)).rows }
 {
@@ -55,7 +55,7 @@ fn items_below<P: Place>(places: &Buffer<P>, nulls: &Validity, bound: usize) -> 
 }
 
 // Whether each place that is not null is below a bound.
-fn valid_places_below<P: Place>(places: &[P], nulls: &Validity, bound: usize) -> bool
+fn valid_places_below<P: RowIndex>(places: &[P], nulls: &Validity, bound: usize) -> bool
     requires { IsTrue (is_as_long nulls.now (length places.now)) }
     ensures { IsTrue result ↔ PlacesBelow bound nulls.now (map P.place places.now) }
 {

@@ -19,14 +19,14 @@ pub use arrays::Array;
 pub use batch::RecordBatch;
 pub use min_max::MinMax;
 pub use sqlite_items::Boxed;
-pub use vortex_casts::CastError;
-pub use vortex_columns::{
+pub use vortex_array_cast::CastError;
+pub use vortex_array_kinds::{
     BoolArray, ConstantArray, DecimalArray, DecimalBuffer, DecimalValue, LengthMismatch,
     PrimitiveArray, PrimitiveBuffer, PushError, Validity, VarBinViewArray, VarBinViewBuilder,
 };
-pub use vortex_predicates::{BetweenTo, CompareTo, LikePattern, LikeTo, Predicate};
-pub use vortex_selections::{Select, Take};
-pub use vortex_types::{
+pub use vortex_array_predicates::{BetweenTo, CompareTo, LikePattern, LikeTo, Predicate};
+pub use vortex_array_select::{Select, Take};
+pub use vortex_array_types::{
     BadPrecision, BetweenOptions, Bytes, CodeType, ColumnDesc, CompareOperator, DType,
     DecimalDType, Filter, FilterError, Name, NativeValue, Nullability, Operand, PType, Scalar,
     StrictComparison, Text, Value, ValueRef, WrongType, accepts, compares,

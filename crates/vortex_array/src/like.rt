@@ -1,22 +1,22 @@
 // Columns of texts matched with patterns.
 ghost use Rattle.std.specs.Prelude.{◌≡◌, ◌==◌, IfOk, IsTrue, None, Some, length, option_map, replicate};
-ghost use Rattle.vortex_types.specs.Row.{fits_type, nullability};
-ghost use Rattle.vortex_types.specs.Seen.{value_seen};
-ghost use Rattle.vortex_types.specs.declared.scalar.Value.TheVariants as value;
-ghost use Rattle.vortex_columns.specs.ByteRows.{is_text_type};
-ghost use Rattle.vortex_columns.specs.Truths.{either, liked};
-ghost use Rattle.vortex_comparisons.specs.Repeated.{repeated};
+ghost use Rattle.vortex_array_types.specs.Row.{fits_type, nullability};
+ghost use Rattle.vortex_array_types.specs.Seen.{value_seen};
+ghost use Rattle.vortex_array_types.specs.declared.scalar.Value.TheVariants as value;
+ghost use Rattle.vortex_array_kinds.specs.ByteRows.{is_text_type};
+ghost use Rattle.vortex_array_kinds.specs.Truths.{either, liked};
+ghost use Rattle.vortex_array_compare.specs.Repeated.{repeated};
 ghost use Rattle.vortex_array.specs.ColumnOf.{bool_column, column_of, constant_column};
 
 use crate::arrays::Array;
 use crate::compare::either_nullability;
 use std::alloc::{AllocError, Global};
-use vortex_columns::{BoolArray, ConstantArray, VarBinViewArray};
-use vortex_comparisons::{
+use vortex_array_compare::{
     equal_answers, like_pattern, like_patterns, null_answers, text_like_patterns,
 };
-use vortex_predicates::text_matches;
-use vortex_types::{DType, ValueRef};
+use vortex_array_kinds::{BoolArray, ConstantArray, VarBinViewArray};
+use vortex_array_predicates::text_matches;
+use vortex_array_types::{DType, ValueRef};
 
 impl Array {
     /// Row by row whether the text matches the pattern, of two columns of texts of one length. Null where a row is null. In

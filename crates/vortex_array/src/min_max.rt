@@ -1,19 +1,19 @@
 // The least and the greatest value of a column of any kind.
 ghost use Rattle.std.specs.Prelude.{◌≡◌, ◌<◌, IsTrue, IfOk, MatchOption, None, Some, is_some, length, slice_index_or};
-ghost use Rattle.vortex_types.specs.Row.{value_fits};
-ghost use Rattle.vortex_types.specs.Seen.{value_seen};
-ghost use Rattle.vortex_types.specs.Widths.{full_form};
+ghost use Rattle.vortex_array_types.specs.Row.{value_fits};
+ghost use Rattle.vortex_array_types.specs.Seen.{value_seen};
+ghost use Rattle.vortex_array_types.specs.Widths.{full_form};
 ghost use Rattle.vortex_array.specs.ColumnOf.{column_of};
-ghost use Rattle.vortex_extremes.specs.Asked.{ExtremesBelow};
-ghost use Rattle.vortex_extremes.specs.Extremes.{AreExtremes, GreatestOf, HasNoValue, LeastOf};
+ghost use Rattle.vortex_array_order.specs.Asked.{ExtremesBelow};
+ghost use Rattle.vortex_array_order.specs.Extremes.{AreExtremes, GreatestOf, HasNoValue, LeastOf};
 
 use crate::arrays::Array;
 use std::alloc::{AllocError, Global};
-use vortex_extremes::{
+use vortex_array_order::{
     ExtremePlaces, decimal_extremes, equal_rows_extremes, number_extremes, text_extremes,
     truth_extremes,
 };
-use vortex_types::{DType, Scalar, ValueRef};
+use vortex_array_types::{DType, Scalar, ValueRef};
 
 /// The least and the greatest value of a column, of its type without nulls.
 #[derive(Drop)]

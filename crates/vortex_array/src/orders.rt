@@ -1,11 +1,13 @@
 // Whether the rows of a column of any kind are equal or in order.
 ghost use Rattle.std.specs.Prelude.{◌↔◌, IsTrue};
 ghost use Rattle.vortex_array.specs.ColumnOf.{column_of};
-ghost use Rattle.vortex_extremes.specs.Asked.{Holds};
-ghost use Rattle.vortex_extremes.specs.InOrder.{IsConstant, IsSorted, IsStrictlySorted};
+ghost use Rattle.vortex_array_order.specs.Asked.{Holds};
+ghost use Rattle.vortex_array_order.specs.InOrder.{IsConstant, IsSorted, IsStrictlySorted};
 
 use crate::arrays::Array;
-use vortex_extremes::{RowOrder, decimals_are, equal_rows_are, numbers_are, texts_are, truths_are};
+use vortex_array_order::{
+    RowOrder, decimals_are, equal_rows_are, numbers_are, texts_are, truths_are,
+};
 
 impl Array {
     // Whether the rows stand in the order that is asked for.

@@ -5,14 +5,14 @@ ghost use Rattle.vortex_buffer.specs.Mask.{mask_bits};
 ghost use Rattle.vortex_array.specs.ColumnOf.{column_of, is_plain as is_plain_array};
 ghost use Rattle.vortex_array.specs.Batch.{HasRows};
 ghost use Rattle.vortex_array.specs.Head.{IsHeadOf};
-ghost use Rattle.vortex_selections.specs.Selected.{filtered, sliced};
+ghost use Rattle.vortex_array_select.specs.Selected.{filtered, sliced};
 
 use crate::arrays::Array;
 use crate::batch::RecordBatch;
 use std::alloc::{AllocError, Global};
 use std::ops::Range;
+use vortex_array_select::Select;
 use vortex_buffer::Mask;
-use vortex_selections::Select;
 
 impl Array {
     /// The rows of a range, in their order. A plain array stays one.

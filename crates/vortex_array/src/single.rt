@@ -1,23 +1,23 @@
 // One row as a plain array.
 ghost use Rattle.std.specs.Prelude.{◌≡◌, ◌∷◌, [], IfOk, IsTrue, IsUtf8, List, ℕ, Some, map, option_copied, option_map};
-ghost use Rattle.vortex_types.specs.Row.{fits_type, in_width};
-ghost use Rattle.vortex_types.specs.Seen.{value_seen};
-ghost use Rattle.vortex_types.specs.declared.types.DType.TheVariants as dtypes;
-ghost use Rattle.vortex_types.specs.declared.scalar.Value.TheVariants as values;
-ghost use Rattle.vortex_columns.specs.ByteRows.{is_bytes_type};
-ghost use Rattle.vortex_columns.specs.Kinds.{bool_column, decimal_column, numbers_of, primitive_column, ptype_of, unscaled_of};
+ghost use Rattle.vortex_array_types.specs.Row.{fits_type, in_width};
+ghost use Rattle.vortex_array_types.specs.Seen.{value_seen};
+ghost use Rattle.vortex_array_types.specs.declared.types.DType.TheVariants as dtypes;
+ghost use Rattle.vortex_array_types.specs.declared.scalar.Value.TheVariants as values;
+ghost use Rattle.vortex_array_kinds.specs.ByteRows.{is_bytes_type};
+ghost use Rattle.vortex_array_kinds.specs.Kinds.{bool_column, decimal_column, numbers_of, primitive_column, ptype_of, unscaled_of};
 ghost use Rattle.vortex_array.specs.ColumnOf.{column_of, is_plain as is_plain_array};
 ghost use Rattle.vortex_array.specs.Single.{bytes_held, number_held, truth_held, unscaled_held, validity_held};
 
 use crate::arrays::Array;
 use std::alloc::{AllocError, Global};
-use vortex_buffer::{BitBuffer, Buffer};
-use vortex_columns::{
+use vortex_array_kinds::{
     BoolArray, DecimalArray, DecimalBuffer, PrimitiveArray, PrimitiveBuffer, PushError, Validity,
     VarBinViewBuilder,
 };
+use vortex_array_types::{DType, DecimalDType, NativeValue, Nullability, PType, Scalar, ValueRef};
+use vortex_buffer::{BitBuffer, Buffer};
 use vortex_compute::collect_bits;
-use vortex_types::{DType, DecimalDType, NativeValue, Nullability, PType, Scalar, ValueRef};
 
 // A plain array of this one row.
 pub(crate) fn one_row(alloc: Global, scalar: &Scalar) -> Result<Array, AllocError>

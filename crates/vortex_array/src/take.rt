@@ -1,22 +1,22 @@
 // The rows of arrays at indices.
 ghost use Rattle.std.specs.Prelude.{◌≡◌, All, IfOk, IsTrue, length, map, pos, replicate};
-ghost use Rattle.vortex_types.specs.Row.{fits_type, value_fits};
-ghost use Rattle.vortex_types.specs.Seen.{value_seen};
-ghost use Rattle.vortex_types.specs.declared.scalar.Value.TheVariants as values;
-ghost use Rattle.vortex_selections.specs.Selected.{IndexBelow, NamesRows, is_index_type, taken};
-ghost use Rattle.vortex_selections.specs.SelectedParts.{PlacesBelow, index_column};
+ghost use Rattle.vortex_array_types.specs.Row.{fits_type, value_fits};
+ghost use Rattle.vortex_array_types.specs.Seen.{value_seen};
+ghost use Rattle.vortex_array_types.specs.declared.scalar.Value.TheVariants as values;
+ghost use Rattle.vortex_array_select.specs.Selected.{IndexBelow, NamesRows, is_index_type, taken};
+ghost use Rattle.vortex_array_select.specs.SelectedParts.{PlacesBelow, index_column};
 ghost use Rattle.vortex_array.specs.ColumnOf.{column_of, constant_column, is_plain as is_plain_array, primitive_column};
 ghost use Rattle.vortex_array.specs.Index.{nulls_of_index, number_column, place_of_index};
-ghost use Rattle.vortex_columns.specs.Validities.{is_as_long};
+ghost use Rattle.vortex_array_kinds.specs.Validities.{is_as_long};
 
 use crate::arrays::Array;
 use crate::single::one_row;
 use std::alloc::{AllocError, Global};
+use vortex_array_kinds::{ConstantArray, PrimitiveArray, PrimitiveBuffer, Validity};
+use vortex_array_rows::RowIndex;
+use vortex_array_select::{Take, take_equal};
+use vortex_array_types::{DType, Scalar, ValueRef};
 use vortex_buffer::Buffer;
-use vortex_columns::{ConstantArray, PrimitiveArray, PrimitiveBuffer, Validity};
-use vortex_rows::Place;
-use vortex_selections::{Take, take_equal};
-use vortex_types::{DType, Scalar, ValueRef};
 
 impl Array {
     /// The rows at the indices, in the order of the indices; null where an index is null. An index may come again. The
@@ -64,7 +64,7 @@ fn take_by_numbers(
 }
 
 // The rows at indices of one width.
-fn take_numbers_at<P: Place>(
+fn take_numbers_at<P: RowIndex>(
     alloc: Global,
     array: &Array,
     places: &Buffer<P>,
@@ -92,7 +92,7 @@ fn take_by_equal(alloc: Global, array: &Array, index: &ConstantArray) -> Result<
 }
 
 // The rows at places, null where a place is null.
-fn take_at<P: Place>(
+fn take_at<P: RowIndex>(
     alloc: Global,
     array: &Array,
     places: &[P],
@@ -110,7 +110,7 @@ fn take_at<P: Place>(
 }
 
 // The rows of a plain array at places.
-pub(crate) fn take_plain<P: Place>(
+pub(crate) fn take_plain<P: RowIndex>(
     alloc: Global,
     array: &Array,
     places: &[P],
@@ -144,7 +144,7 @@ pub(crate) fn take_plain<P: Place>(
 }
 
 // The rows of a constant array at places. Where a place may be null, its row is taken as a plain array of one.
-fn take_constant<P: Place>(
+fn take_constant<P: RowIndex>(
     alloc: Global,
     array: &ConstantArray,
     places: &[P],
@@ -164,7 +164,7 @@ fn take_constant<P: Place>(
 }
 
 // The row of a constant array wherever a place is not null, as a plain array.
-fn take_one_row<P: Place>(
+fn take_one_row<P: RowIndex>(
     alloc: Global,
     array: &ConstantArray,
     places: &[P],
@@ -181,7 +181,7 @@ fn take_one_row<P: Place>(
 }
 
 // So many equal places.
-pub(crate) fn equal_places<P: Place>(
+pub(crate) fn equal_places<P: RowIndex>(
     alloc: Global,
     place: P,
     len: usize,

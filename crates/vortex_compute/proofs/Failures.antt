@@ -143,9 +143,8 @@ before_fails bits answers more k word tz j long is small inside before low l =
     (cases_lt j (64 * k))
 
 -- a valid lane of the group failed
-pub masked_fails : {X R : Type 0} (P : X → Option R → Type 0) (d : R) (lanes : List X) (bits : List Bool) (now new : List R) (k m word : ℕ) → m ≤ 64 → 64 * k + m ≡ min (length lanes) (64 * k + 64) → MapsLanes P d (take (64 * k) lanes) bits (take (64 * k) now) → TriedGroup P d (take m (drop (64 * k) lanes)) (64 * k) m now new word → (bit_and word (word_of bits k) ≡ 0 → ⊥) → FailsFirst P lanes bits (64 * k + trailing_zeros w64 (bit_and word (word_of bits k)))
-masked_fails P d lanes bits now new k m word small stops h w some =
-    let inside : 64 * k + m ≤ length lanes = omega (arith, stops) in
+pub masked_fails : {X R : Type 0} (P : X → Option R → Type 0) (d : R) (lanes : List X) (bits : List Bool) (now new : List R) (k m word : ℕ) → 64 * k + m ≤ length lanes → MapsLanes P d (take (64 * k) lanes) bits (take (64 * k) now) → TriedGroup P d (take m (drop (64 * k) lanes)) (64 * k) m now new word → (bit_and word (word_of bits k) ≡ 0 → ⊥) → FailsFirst P lanes bits (64 * k + trailing_zeros w64 (bit_and word (word_of bits k)))
+masked_fails P d lanes bits now new k m word inside h w some =
     let valid = bit_and word (word_of bits k) in
     let tz = trailing_zeros w64 valid in
     let long : length h.answers ≡ 64 * k = AllZip-long P (take (64 * k) lanes) h.answers h.each ∙ omega (arith, length-take (64 * k) lanes, inside) in
@@ -158,8 +157,7 @@ masked_fails P d lanes bits now new k m word small stops h w some =
     record {
       answers = h.answers ++ w.answers;
       each = rw (both, take-add) (AllZip-append P (take (64 * k) lanes) (take m (drop (64 * k) lanes)) h.answers w.answers h.each w.each);
-      asked = omega (arith, both, stops, low.0);
-      within = omega (arith, inside, tz_in, more);
+      within = omega (arith, both, tz_in, more);
       fails = fails_right bits h.answers w.answers k tz long ∙ bit_some _ (sym (masked_at bits w.answers k word tz low.0 tz_in w.none_is) ∙ low.1);
       before = λ j l. before_fails bits h.answers w.answers k word tz j long w.none_is low.0 tz_in (λ i l. h.passes i (rw so_far l)) low.2 l;
     }
@@ -212,8 +210,7 @@ unmasked_more P d lanes now new k m j word small end inside h w none =
     (all_failures (length lanes) k m word w.answers (group_long P d lanes k m word now new within w) small within w.none_is ∙ none)
 
 -- a lane of the group failed, where every lane is valid
-pub unmasked_fails : {X R : Type 0} (P : X → Option R → Type 0) (d : R) (lanes : List X) (now new : List R) (k m word : ℕ) → m ≤ 64 → 64 * k + m ≡ min (length lanes) (64 * k + 64) → MapsLanes P d (take (64 * k) lanes) (all_valid lanes) (take (64 * k) now) → TriedGroup P d (take m (drop (64 * k) lanes)) (64 * k) m now new word → (word ≡ 0 → ⊥) → FailsFirst P lanes (all_valid lanes) (64 * k + trailing_zeros w64 word)
-unmasked_fails P d lanes now new k m word small stops h w some =
-    let within : 64 * k + m ≤ length lanes = omega (arith, stops) in
+pub unmasked_fails : {X R : Type 0} (P : X → Option R → Type 0) (d : R) (lanes : List X) (now new : List R) (k m word : ℕ) → m ≤ 64 → 64 * k + m ≤ length lanes → MapsLanes P d (take (64 * k) lanes) (all_valid lanes) (take (64 * k) now) → TriedGroup P d (take m (drop (64 * k) lanes)) (64 * k) m now new word → (word ≡ 0 → ⊥) → FailsFirst P lanes (all_valid lanes) (64 * k + trailing_zeros w64 word)
+unmasked_fails P d lanes now new k m word small within h w some =
     let same = all_failures (length lanes) k m word w.answers (group_long P d lanes k m word now new within w) small within w.none_is in
-    rw same at (masked_fails P d lanes (all_valid lanes) now new k m word small stops h w (λ e. some (sym same ∙ e)))
+    rw same at (masked_fails P d lanes (all_valid lanes) now new k m word within h w (λ e. some (sym same ∙ e)))

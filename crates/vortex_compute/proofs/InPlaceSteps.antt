@@ -12,10 +12,8 @@ use Rattle.vortex_compute.specs.Answers.{all_valid}
 use Rattle.vortex_compute.proofs.WordSteps.{push_word}
 use Rattle.vortex_compute.proofs.Failures.{none_from_some, passes_on, fits_masked, masked_within, masked_at, fails_right, bit_some, before_fails, clash, all_failures}
 use Rattle.std.specs.List.{FoldsTo, zip}
-use Rattle.std.proofs.lemmas.List.{take_more_set, drop-set-lt, drop-drop, get_or-drop, map-append, length-set, take_all}
-use Rattle.std.specs.List.{All}
-use Rattle.std.proofs.lemmas.List.Elements.{All-get_or}
-use Rattle.vortex_compute.specs.InOrder.{InOrder, MapsInOrder, TriesInOrder, FailsInOrder}
+use Rattle.std.proofs.lemmas.List.{take_more_set, drop-set-lt, drop-drop, get_or-drop, map-append, length-set, take_all, take-append-drop, drop_more}
+use Rattle.vortex_compute.specs.InOrder.{InOrder, MayRun, MapsInOrder, TriesInOrder, FailsInOrder}
 use Rattle.vortex_compute.specs.Groups.{InPlace, TriedInPlace, TriedSoFar}
 use Rattle.vortex_compute.proofs.MapSteps.{lanes_more, take-add}
 
@@ -91,12 +89,30 @@ in_place_more step first middle last back start i old now new x a within read he
       long = ap length is ∙ length-set now (start + i) (back a) ∙ h.long;
     }
 
--- a closure that may be called on each lane from start on may be called on one that was not replaced yet
-pub may_ask : {F X A : Type 0} (step : F → X → A → F → Type 0) (first middle : F) (back : A → X) (start i : ℕ) (old now : List X) (x : X) (P : X → Type 0) → start + i < length old → x ≡ get_or now (start + i) x → InPlace step first back start i old now middle → All P (drop start old) → P x
-may_ask step first middle back start i old now x P within read h all =
+-- after calls that were made the closure may be called on the lanes that are left
+run_on : {F X R : Type 0} (pre : F → X → Type 0) (step : F → X → R → F → Type 0) (first last : F) (xs ys : List X) (answers : List R) → length answers ≡ length xs → FoldsTo (λ f call g. step f call.0 call.1 g) first (zip xs answers) last → MayRun pre step first (xs ++ ys) → MayRun pre step last ys
+run_on pre step first last [] ys [] e calls may = rw calls at may
+run_on pre step first last [] ys (a ∷ bs) e calls may = absurd (omega (arith, e))
+run_on pre step first last (x ∷ xs) ys [] e calls may = absurd (omega (arith, e))
+run_on pre step first last (x ∷ xs) ys (a ∷ bs) e calls may = run_on pre step calls.0 last xs ys bs (omega (arith, e)) calls.2 (may.1 a calls.0 calls.1)
+
+-- a closure that may be called on the lanes from start on may be called on those that were not replaced yet
+runs_on : {F X A : Type 0} (pre : F → X → Type 0) (step : F → X → A → F → Type 0) (first last : F) (back : A → X) (start i : ℕ) (old now : List X) → InPlace step first back start i old now last → MayRun pre step first (drop start old) → MayRun pre step last (drop i (drop start old))
+runs_on pre step first last back start i old now h may =
+    run_on pre step first last (take i (drop start old)) (drop i (drop start old)) h.answers h.each.long h.each.calls (rw (take-append-drop i (drop start old)) may)
+
+-- and so on the next of them
+pub may_ask : {F X A : Type 0} (pre : F → X → Type 0) (step : F → X → A → F → Type 0) (first middle : F) (back : A → X) (start i : ℕ) (old now : List X) (x : X) → start + i < length old → x ≡ get_or now (start + i) x → InPlace step first back start i old now middle → MayRun pre step first (drop start old) → pre middle x
+may_ask pre step first middle back start i old now x within read h may =
     let inside : i < length (drop start old) = omega (arith, length-drop start old) in
     let read_here : x ≡ get_or (drop start old) i x = read ∙ same_rest now old (start + i) x h.rest ∙ sym (get_or-drop start old i x) in
-    rw read_here (All-get_or P (drop start old) i x inside all)
+    let left : MayRun pre step middle (x ∷ drop (i + 1) (drop start old)) = rw (drop_more (drop start old) i x inside, sym read_here) at (runs_on pre step first middle back start i old now h may) in
+    left.0
+
+-- a closure that may be called on all lanes may be called on those of the groups that are left
+pub may_go_on : {F X W : Type 0} (pre : F → X → Type 0) (step : F → X → Option W → F → Type 0) (first last : F) (back : Option W → X) (count : ℕ) (mask : List Bool) (old now : List X) → TriedSoFar step first back count mask old now last → MayRun pre step first old → MayRun pre step last (drop count now)
+may_go_on pre step first last back count mask old now h may =
+    rw h.rest (run_on pre step first last (take count old) (drop count old) h.answers h.each.long h.each.calls (rw (take-append-drop count old) may))
 
 -- all lanes replaced
 pub in_place_whole : {F X W : Type 0} (step : F → X → W → F → Type 0) (first last : F) (back : W → X) (n : ℕ) (old new : List X) → length old ≤ n → InPlace step first back 0 n old new last → MapsInOrder step first back old new

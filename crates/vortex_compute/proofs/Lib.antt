@@ -4,3 +4,4 @@ pub mod WordSteps
 pub mod Failures
 pub mod InPlaceSteps
 pub mod PairOrder
+pub mod Running

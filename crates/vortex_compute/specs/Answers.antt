@@ -1,4 +1,4 @@
-use Rattle.std.specs.Prelude.{ℕ, ◌+◌, ◌*◌, ◌/◌, ◌<◌, ◌≡◌, Bool, true, false, ◌&&◌, cond, List, length, get_or, take, map, min, replicate, Option, None, is_none, unwrap_or}
+use Rattle.std.specs.Prelude.{ℕ, ◌<◌, ◌≡◌, Bool, true, false, ◌&&◌, cond, List, length, get_or, take, map, replicate, Option, None, is_none, unwrap_or}
 use Rattle.std.specs.List.{AllZip, fold}
 use Rattle.std.specs.Simd.Lanes.{zip2}
 use Rattle.vortex_buffer.specs.Bits.{packed_over}
@@ -13,10 +13,6 @@ all_valid lanes = replicate (length lanes) true
 -- lane i fails: it is valid, and its answer is none
 abbrev pub fails_at : {R : Type 0} → List Bool → List (Option R) → ℕ → Bool
 fails_at mask answers i = get_or mask i false && is_none (get_or answers i None)
-
--- where the group of 64 lanes ends that holds lane i of n
-abbrev pub group_end : ℕ → ℕ → ℕ
-group_end n i = min n (64 * (i / 64) + 64)
 
 -- valid lanes hold their answer, and null lanes the default d
 pub record MapsValid {X R : Type 0} (P : X → R → Type 0) (d : R) (lanes : List X) (mask : List Bool) (new : List R) : Type 0 where
@@ -44,11 +40,10 @@ pub record MapsLanes {X R : Type 0} (P : X → Option R → Type 0) (d : R) (lan
   pub passes : (i : ℕ) → i < length lanes → fails_at mask answers i ≡ false
   pub written : new ≡ map (λ answer. unwrap_or answer d) answers
 
--- lane i is the first that failed; there is one answer for each lane up to the end of its group of 64, and none for later lanes
+-- lane i is the first that failed; there is one answer for each lane that was asked, a front of the lanes that holds lane i
 pub record FailsFirst {X R : Type 0} (P : X → Option R → Type 0) (lanes : List X) (mask : List Bool) (i : ℕ) : Type 0 where
   pub answers : List (Option R)
   pub each : AllZip P (take (length answers) lanes) answers
-  pub asked : length answers ≡ group_end (length lanes) i
-  pub within : i < length lanes
+  pub within : i < length answers
   pub fails : fails_at mask answers i ≡ true
   pub before : (j : ℕ) → j < i → fails_at mask answers j ≡ false

@@ -1,9 +1,9 @@
 // Kernels that replace lanes where they stand. The closure may change as it is called: it is asked once per lane, in
-// lane order.
-ghost use Rattle.std.specs.Prelude.{◌≡◌, ◌<◌, ◌≤◌, ◌+◌, ◌^◌, All, Some, IfErr, OnOk, length, drop, unwrap_or};
+// lane order, and has to be callable only in the states that it reaches so.
+ghost use Rattle.std.specs.Prelude.{◌≡◌, ◌<◌, ◌≤◌, ◌+◌, ◌^◌, Some, IfErr, OnOk, length, drop, unwrap_or};
 ghost use Rattle.vortex_compute.specs.Answers.{all_valid};
 ghost use Rattle.vortex_compute.specs.Groups.{TriedInPlace};
-ghost use Rattle.vortex_compute.specs.InOrder.{MapsInOrder, TriesInOrder, FailsInOrder};
+ghost use Rattle.vortex_compute.specs.InOrder.{MayRun, MapsInOrder, TriesInOrder, FailsInOrder};
 
 use crate::lane_default::LaneDefault;
 use crate::refusing::failed_lane;
@@ -13,7 +13,7 @@ use vortex_buffer::BitBuffer;
 /// Replaces each lane by what the answer of `f` to it reads back as.
 #[inline]
 pub fn map_into_in_place<S: IndexedSink, F: FnMut(S::Item) -> S::Write>(values: &mut S, mut f: F)
-    requires callable { (state : F) → All (F.pre state) (S.lanes values.old) }
+    requires callable { MayRun F.pre F.step f (S.lanes values.old) }
     ensures written { MapsInOrder F.step f S.reads_back (S.lanes values.old) (S.lanes values.new) }
     ensures kept { S.same_target values.old values.new }
 {
@@ -33,7 +33,7 @@ fn try_group_in_place<S: IndexedSink, F: FnMut(S::Item) -> Option<S::Write>>(
 ) -> u64
 where
     S::Write: LaneDefault,
-    requires callable { (state : F) → All (F.pre state) (drop base (S.lanes values.old)) }
+    requires callable { MayRun F.pre F.step f.old (drop base (S.lanes values.old)) }
     requires within { base + count ≤ length (S.lanes values.old) }
     requires small { count ≤ 64 }
     requires fits { base + count < 2 ^ 64 }
@@ -59,7 +59,7 @@ pub fn try_map_in_place<S: IndexedSink, F: FnMut(S::Item) -> Option<S::Write>>(
 ) -> Result<(), usize>
 where
     S::Write: LaneDefault,
-    requires callable { (state : F) → All (F.pre state) (S.lanes values.old) }
+    requires callable { MayRun F.pre F.step f (S.lanes values.old) }
     ensures ok { OnOk result (MapsInOrder (λ before lane value after. F.step before lane (Some value) after) f S.reads_back (S.lanes values.old) (S.lanes values.new)) }
     ensures err { IfErr result (FailsInOrder F.step f (S.lanes values.old) (all_valid (S.lanes values.old))) }
     ensures length { length (S.lanes values.new) ≡ length (S.lanes values.old) }
@@ -96,7 +96,7 @@ pub fn try_map_masked_in_place<S: IndexedSink, F: FnMut(S::Item) -> Option<S::Wr
 ) -> Result<(), usize>
 where
     S::Write: LaneDefault,
-    requires callable { (state : F) → All (F.pre state) (S.lanes values.old) }
+    requires callable { MayRun F.pre F.step f (S.lanes values.old) }
     requires masked { length mask.now ≡ length (S.lanes values.old) }
     ensures ok { OnOk result (TriesInOrder F.step f S.reads_back S.Write.its_default (S.lanes values.old) mask.now (S.lanes values.new)) }
     ensures err { IfErr result (FailsInOrder F.step f (S.lanes values.old) mask.now) }

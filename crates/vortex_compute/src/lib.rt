@@ -18,9 +18,9 @@
 //! | `try_map_masked_in_place` | the same | the value or the default, read back | the lanes may be anything, as many as before | nothing |
 //!
 //! A kernel that can refuse answers the first valid lane whose answer was none. It works by groups of 64 lanes and looks
-//! at the failures of a group at its end, so that the loop over the lanes has no branch: the lanes of the failing group
-//! are all asked, and none after. No kernel takes memory, apart from `collect_bits`, `collect_lane_bits` and
-//! `collect_zip_bits`, which make a buffer.
+//! at the failures of a group at its end, so that the loop over the lanes has no branch. Each lane is asked at most once;
+//! of the in-place kernels a clause says that the lanes of the failing group are all asked, and none after. No kernel
+//! takes memory, apart from `collect_bits`, `collect_lane_bits` and `collect_zip_bits`, which make a buffer.
 #![tactic(auto)]
 
 mod compare;

@@ -46,7 +46,7 @@ pub(crate) fn failed_lane(group: usize, failed: u64) -> usize
 }
 
 /// `out[i]` becomes the value for lane `i`. Refused exactly where an answer is none, with the first lane that failed.
-/// Each lane is asked at most once: every lane to the end of the failing lane's group of 64, and none after.
+/// Each lane is asked at most once.
 /// After a refusal the contents of `out` may be anything.
 #[inline]
 pub fn try_map_into<S: IndexedSource, R: LaneDefault, F: Fn(S::Item) -> Option<R>>(
@@ -80,7 +80,7 @@ pub fn try_map_into<S: IndexedSource, R: LaneDefault, F: Fn(S::Item) -> Option<R
 
 /// `out[i]` becomes the value for lane `i`, in null lanes too, and the default where the answer is none.
 /// Refused exactly where a valid lane's answer is none, with the first such lane; null lanes never refuse.
-/// Each lane is asked at most once: every lane to the end of the failing lane's group of 64, and none after.
+/// Each lane is asked at most once.
 /// After a refusal the contents of `out` may be anything.
 #[inline]
 pub fn try_map_masked_into<S: IndexedSource, R: LaneDefault, F: Fn(S::Item) -> Option<R>>(

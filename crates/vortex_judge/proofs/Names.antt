@@ -3,8 +3,8 @@ use Rattle.std.proofs.Common.{rules, ◌≡◌, ◌∙◌, sym, ap, ℕ, List, �
 use Rattle.std.specs.Prelude.{Option, Some, None, find}
 use Rattle.std.specs.Option.{option_or}
 use Rattle.std.proofs.lemmas.List.Folds.{find-append}
-use Rattle.vortex_types.specs.declared.filter.Filter.{Filter, fold-Filter, Not, And, Or, the_lemmas}
-use Rattle.vortex_types.specs.Typed.{names_step}
+use Rattle.vortex_array_types.specs.declared.filter.Filter.{Filter, fold-Filter, Not, And, Or, the_lemmas}
+use Rattle.vortex_array_types.specs.Typed.{names_step}
 
 pub find_append : {X : Type 0} (p : X → Bool) (xs ys : List X) → find p (xs ++ ys) ≡ option_or (find p xs) (find p ys)
 find_append p xs ys = find-append p xs ys

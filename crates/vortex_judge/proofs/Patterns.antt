@@ -1,6 +1,6 @@
 -- Two steps of matching, at any list.
 use Rattle.std.proofs.Common.{◌≡◌, sym, ap, ℕ, List, [], ◌∷◌, Bool, true, false, ◌||◌}
-use Rattle.vortex_types.specs.Matches.{matches_escaped, some_suffix}
+use Rattle.vortex_array_types.specs.Matches.{matches_escaped, some_suffix}
 
 pub escaped-nil : (pattern text : List ℕ) → text ≡ [] → false ≡ matches_escaped pattern text
 escaped-nil [] text e = ap (matches_escaped []) (sym e)

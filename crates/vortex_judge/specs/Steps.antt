@@ -1,11 +1,11 @@
 -- What the parts of the plain programs compute.
 use Rattle.std.specs.Prelude.{ℕ, ◌<◌, slice_index_or, List, map, filter, None, slice_get, unwrap_or}
 use Rattle.std.specs.List.{enumerate_from}
-use Rattle.vortex_types.specs.declared.types.DType.{DType}
-use Rattle.vortex_types.specs.Row.{Column}
-use Rattle.vortex_types.specs.declared.column.ColumnDesc.{ColumnDesc}
+use Rattle.vortex_array_types.specs.declared.types.DType.{DType}
+use Rattle.vortex_array_types.specs.Row.{Column}
+use Rattle.vortex_array_types.specs.declared.column.ColumnDesc.{ColumnDesc}
 use Rattle.vortex_table.specs.declared.scan.request.ScanRequest.{ScanRequest}
-use Rattle.vortex_types.specs.Cells.{Row}
+use Rattle.vortex_array_types.specs.Cells.{Row}
 use Rattle.vortex_table.specs.Chosen.{Placed, is_chosen, projected}
 
 -- the chosen rows of a partition, the first of which has this number

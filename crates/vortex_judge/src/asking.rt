@@ -3,7 +3,7 @@
 ghost use Rattle.std.specs.Prelude.{◌≡◌, [], ◌∷◌, ◌++◌, ◌+◌, ◌<◌, ◌≤◌, ◌^◌, ◌↔◌, IsTrue, length, None, IfOk, OnOk, All, filter_map, flat_map, map, slice_get, sum_by, unwrap_or, zip};
 ghost use Rattle.vortex_table.specs.Answers.{asked};
 ghost use Rattle.vortex_table.specs.Chosen.{projected_types};
-ghost use Rattle.vortex_types.specs.Cells.{dtype_of};
+ghost use Rattle.vortex_array_types.specs.Cells.{dtype_of};
 ghost use Rattle.vortex_table.specs.Table.{decoded, partition_rows, row_at as row_there, scopes_from, split_rows, split_scopes};
 
 use crate::batch::{PlainColumn, PlainContent, PlainSplit, Question};

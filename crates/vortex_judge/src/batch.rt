@@ -23,7 +23,7 @@ impl Drop for PlainColumn {
 }
 
 impl Model for PlainColumn {
-    ghost use Rattle.vortex_types.specs.Row.{Column};
+    ghost use Rattle.vortex_array_types.specs.Row.{Column};
 
     ghost Value = { Column };
 
@@ -66,7 +66,7 @@ impl Drop for PlainSplit {
 
 impl Model for PlainSplit {
     ghost use Rattle.std.specs.Prelude.{List};
-    ghost use Rattle.vortex_types.specs.Row.{Column};
+    ghost use Rattle.vortex_array_types.specs.Row.{Column};
 
     ghost Value = { List Column };
 

@@ -1,7 +1,7 @@
 // Whether the content of sources fits the description of a table.
 ghost use Rattle.std.specs.Prelude.{◌≡◌, ◌↔◌, IsTrue, length};
 ghost use Rattle.std.specs.List.{AllZip, list_all};
-ghost use Rattle.vortex_types.specs.Row.{fits_column, fits_type};
+ghost use Rattle.vortex_array_types.specs.Row.{fits_column, fits_type};
 ghost use Rattle.vortex_table.specs.Table.{FitsChunk, FitsPartition};
 
 use crate::batch::{PlainColumn, PlainContent, PlainSplit};

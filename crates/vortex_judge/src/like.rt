@@ -1,6 +1,6 @@
 // Which texts a pattern matches. It goes over the text itself, character by character, and takes no memory.
 ghost use Rattle.std.specs.Prelude.{◌≡◌, ◌<◌, [], ◌∷◌, length, chars, IfNone, IfSome};
-ghost use Rattle.vortex_types.specs.Matches.{matches as is_match, matches_chars, matches_escaped as is_escaped_match, some_suffix};
+ghost use Rattle.vortex_array_types.specs.Matches.{matches as is_match, matches_chars, matches_escaped as is_escaped_match, some_suffix};
 
 // The first character of a text, and the text behind it.
 fn split_first(text: &str) -> Option<(char, &str)>

@@ -1,6 +1,6 @@
 // Comparisons of values.
 ghost use Rattle.std.specs.Prelude.{◌≡◌};
-ghost use Rattle.vortex_types.specs.Order.{accepts as is_accepted, compares as is_compared};
+ghost use Rattle.vortex_array_types.specs.Order.{accepts as is_accepted, compares as is_compared};
 
 use std::cmp::Ordering;
 use vortex_array::{CompareOperator, Value};

@@ -18,7 +18,7 @@ impl Drop for PlainRow {
 }
 
 impl Model for PlainRow {
-    ghost use Rattle.vortex_types.specs.Cells.{Row};
+    ghost use Rattle.vortex_array_types.specs.Cells.{Row};
 
     ghost Value = { Row };
 
@@ -54,7 +54,7 @@ impl Drop for PlainRows {
 
 impl Model for PlainRows {
     ghost use Rattle.std.specs.Prelude.{List};
-    ghost use Rattle.vortex_types.specs.Cells.{Row};
+    ghost use Rattle.vortex_array_types.specs.Cells.{Row};
 
     ghost Value = { List Row };
 

@@ -1,8 +1,8 @@
 // The truth of a filter for one row, in three values. `None` stands for null.
 ghost use Rattle.std.specs.Prelude.{◌≡◌, ◌≤◌, is_none, length, not, option_and_then, option_copied, option_map};
-ghost use Rattle.vortex_types.specs.Cells.{cell_of};
-ghost use Rattle.vortex_types.specs.Order.{compares as compares_values};
-ghost use Rattle.vortex_types.specs.Truth.{all_three, and3, both, is_like as likes, keeps as keeps_row, lies_between, operand_value as value_in, or3, truth, truth_value};
+ghost use Rattle.vortex_array_types.specs.Cells.{cell_of};
+ghost use Rattle.vortex_array_types.specs.Order.{compares as compares_values};
+ghost use Rattle.vortex_array_types.specs.Truth.{all_three, and3, both, is_like as likes, keeps as keeps_row, lies_between, operand_value as value_in, or3, truth, truth_value};
 
 use crate::like::matches;
 use crate::order::compares;
@@ -170,7 +170,7 @@ fn truth_of_like(
 }
 
 /// The truth of a filter for a row.
-#[tactic(auto, using(vortex_types::specs::declared::filter::Filter::the_lemmas))]
+#[tactic(auto, using(vortex_array_types::specs::declared::filter::Filter::the_lemmas))]
 pub fn truth_of(columns: &[ColumnDesc], row: &[Option<Value>], filter: &Filter) -> Option<bool>
     ensures { result ≡ truth (cell_of columns.now row.now) filter.now }
 {

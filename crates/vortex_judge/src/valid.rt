@@ -1,7 +1,7 @@
 // Whether a request is valid for a table's columns.
 ghost use Rattle.std.specs.Prelude.{◌≡◌, [], ◌∷◌, ◌++◌, not, find, is_some, option_copied};
-ghost use Rattle.vortex_types.specs.Cells.{dtype_of};
-ghost use Rattle.vortex_types.specs.Typed.{filter_names, is_constant as is_constant_operand, is_text, is_truth_value, operand_names, operand_type, same_apart_from_nullability, same_type, well_typed as is_well_typed};
+ghost use Rattle.vortex_array_types.specs.Cells.{dtype_of};
+ghost use Rattle.vortex_array_types.specs.Typed.{filter_names, is_constant as is_constant_operand, is_text, is_truth_value, operand_names, operand_type, same_apart_from_nullability, same_type, well_typed as is_well_typed};
 ghost use Rattle.vortex_table.specs.Valid.{first_unknown as unknown_first, projection_names};
 
 use vortex_array::{ColumnDesc, DType, Filter, Name, Operand};
@@ -69,7 +69,7 @@ fn unknown_of_three<'a>(
 }
 
 // The first name of a filter that is not the table's.
-#[tactic(auto, using(vortex_types::specs::declared::filter::Filter::the_lemmas, crate::proofs::Names::find_append))]
+#[tactic(auto, using(vortex_array_types::specs::declared::filter::Filter::the_lemmas, crate::proofs::Names::find_append))]
 fn unknown_in<'a>(columns: &[ColumnDesc], filter: &'a Filter) -> Option<&'a Name>
     ensures { option_copied result ≡ find (λ n. not (is_some (dtype_of columns.now n))) (filter_names (Some filter.now)) }
 {
@@ -179,7 +179,7 @@ fn is_constant(x: &Operand) -> bool
 }
 
 // Whether a filter meets the type rules.
-#[tactic(auto, using(vortex_types::specs::declared::filter::Filter::the_lemmas))]
+#[tactic(auto, using(vortex_array_types::specs::declared::filter::Filter::the_lemmas))]
 fn is_typed(columns: &[ColumnDesc], filter: &Filter) -> bool
     ensures { result ≡ is_well_typed columns.now (Some filter.now) }
 {

@@ -7,9 +7,9 @@ use Rattle.std.proofs.lemmas.Bool.Decides.{nat_tests}
 use Rattle.std.proofs.lemmas.List.{length-map}
 use mir.Val.{Fits}
 use mir.Syntax.{w64}
-use Rattle.vortex_types.specs.declared.scalar.Value.TheVariants.{Int}
-use Rattle.vortex_types.specs.declared.column.ColumnDesc.{ColumnDesc}
-use Rattle.vortex_types.specs.Row.{Column, fits_type}
+use Rattle.vortex_array_types.specs.declared.scalar.Value.TheVariants.{Int}
+use Rattle.vortex_array_types.specs.declared.column.ColumnDesc.{ColumnDesc}
+use Rattle.vortex_array_types.specs.Row.{Column, fits_type}
 use Rattle.std.proofs.lemmas.List.Elements.{All-cons, All-head, All-nil, All-tail}
 use Rattle.vortex_io.specs.declared.order.Order.{Order}
 use Rattle.vortex_io.specs.Memory.{MemoryState}

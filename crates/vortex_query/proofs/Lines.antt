@@ -5,13 +5,13 @@ use Rattle.std.specs.List.{range_with_len}
 use Rattle.std.proofs.lemmas.List.{append-nil, flat_map_more, map_more}
 use Rattle.std.proofs.lemmas.Grind.{flat_map-append}
 use Rattle.csv.specs.Writing.{default_writer, row_text}
-use Rattle.vortex_types.specs.declared.types.DType.{DType}
-use Rattle.vortex_types.specs.declared.scalar.Value.{Value}
-use Rattle.vortex_types.specs.declared.column.ColumnDesc.{ColumnDesc}
+use Rattle.vortex_array_types.specs.declared.types.DType.{DType}
+use Rattle.vortex_array_types.specs.declared.scalar.Value.{Value}
+use Rattle.vortex_array_types.specs.declared.column.ColumnDesc.{ColumnDesc}
 use Rattle.vortex_array.specs.declared.arrays.Array.{Array}
 use Rattle.vortex_array.specs.Batch.{HasRows}
-use Rattle.vortex_types.specs.Cells.{Row}
-use Rattle.vortex_types.specs.Row.{Column}
+use Rattle.vortex_array_types.specs.Cells.{Row}
+use Rattle.vortex_array_types.specs.Row.{Column}
 use Rattle.vortex_array.specs.ColumnOf.{column_of}
 use Rattle.vortex_table.specs.declared.scan.request.Projection.{Projection}
 use Rattle.vortex_table.specs.declared.scan.request.Projection.TheVariants as projection

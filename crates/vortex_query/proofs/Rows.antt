@@ -28,14 +28,6 @@ pub bad_row : (rows rest : List (List (List ℕ))) (f : List (List ℕ)) → row
 unfolding rows_numbers
 bad_row rows rest f e h = ap rows_numbers e ∙ ap (λ o. option_and_then (λ m. preceded (m ∷ []) (rows_numbers rest)) o) h
 
-nothing_before : (o : Option (List ℕ)) → o ≡ preceded [] o
-nothing_before None = refl
-nothing_before (Some ns) = refl
-
--- no number was read yet
-pub none_read : (rows : List (List (List ℕ))) → rows_numbers rows ≡ preceded [] (rows_numbers rows)
-none_read rows = nothing_before (rows_numbers rows)
-
 after_one : (ns : List ℕ) (n : ℕ) (o : Option (List ℕ)) → preceded ns (preceded (n ∷ []) o) ≡ preceded (ns ++ n ∷ []) o
 after_one ns n None = refl
 after_one ns n (Some ms) = ap Some (sym (append_assoc ns (n ∷ []) ms))

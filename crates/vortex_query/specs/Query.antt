@@ -5,7 +5,7 @@ use Rattle.std.specs.Str.{bytes_eq}
 use Rattle.std.specs.Io.KnownBytes.{Appends}
 use Rattle.vortex_streams.specs.Faults.{Faulted}
 use Rattle.vortex_streams.specs.Known.{AppendsFront}
-use Rattle.vortex_types.specs.Cells.{Row}
+use Rattle.vortex_array_types.specs.Cells.{Row}
 use Rattle.vortex_table.specs.declared.scan.request.ScanRequest.{ScanRequest}
 use Rattle.vortex_table.specs.Answers.{Answers, Asked, Given, asked, within}
 use Rattle.vortex_table.specs.Chosen.{Placed, chosen}

@@ -4,12 +4,12 @@ use Rattle.std.specs.Str.{bytes_eq}
 use Rattle.serde_json.specs.Data.{Data, null, boolean, number, string, array, object}
 use Rattle.serde_json.specs.Find.{as_number, as_str, as_u64, get}
 use Rattle.serde_json.specs.Read.{read}
-use Rattle.vortex_types.specs.declared.scalar.Value.TheVariants.{Int}
+use Rattle.vortex_array_types.specs.declared.scalar.Value.TheVariants.{Int}
 use Rattle.vortex_buffer.specs.declared.compare_operator.CompareOperator.{CompareOperator}
 use Rattle.vortex_buffer.specs.declared.compare_operator.CompareOperator.TheVariants.{Eq, NotEq, Gt, Gte, Lt, Lte}
-use Rattle.vortex_types.specs.declared.filter.Operand.{Operand}
-use Rattle.vortex_types.specs.declared.filter.Operand.TheVariants.{Column, Constant}
-use Rattle.vortex_types.specs.declared.filter.Filter.{Filter, Compare}
+use Rattle.vortex_array_types.specs.declared.filter.Operand.{Operand}
+use Rattle.vortex_array_types.specs.declared.filter.Operand.TheVariants.{Column, Constant}
+use Rattle.vortex_array_types.specs.declared.filter.Filter.{Filter, Compare}
 use Rattle.vortex_table.specs.declared.scan.request.Projection.TheVariants as projection
 use Rattle.vortex_table.specs.declared.scan.request.ScanRequest.{ScanRequest}
 use Rattle.vortex_table.specs.declared.scan.selection.Selection.TheVariants as selection

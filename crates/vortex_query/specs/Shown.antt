@@ -2,10 +2,10 @@
 use Rattle.std.specs.Prelude.{◌≡◌, ℕ, pos, List, [], ◌∷◌, map, flat_map, false, Option, Some}
 use Rattle.csv.specs.Writing.{default_writer, fields_written, has_written, text_written, writer_setup}
 use Rattle.csv.specs.declared.writer.Writer.{Writer}
-use Rattle.vortex_types.specs.declared.scalar.Value.{Value}
-use Rattle.vortex_types.specs.declared.scalar.Value.TheVariants.{Int}
-use Rattle.vortex_types.specs.declared.column.ColumnDesc.{ColumnDesc}
-use Rattle.vortex_types.specs.Cells.{Row}
+use Rattle.vortex_array_types.specs.declared.scalar.Value.{Value}
+use Rattle.vortex_array_types.specs.declared.scalar.Value.TheVariants.{Int}
+use Rattle.vortex_array_types.specs.declared.column.ColumnDesc.{ColumnDesc}
+use Rattle.vortex_array_types.specs.Cells.{Row}
 use Rattle.vortex_array.specs.ColumnOf.{column_of}
 use Rattle.vortex_table.specs.declared.scan.batch.Batch.{Batch}
 use Rattle.vortex_table.specs.Given.{given}

@@ -2,9 +2,9 @@
 use Rattle.std.specs.Prelude.{◌≡◌, ℕ, ◌*◌, pos, List, [], ◌∷◌, length, map, take, drop, Option, Some, None, option_map}
 use Rattle.std.specs.Int.{div_ceil}
 use Rattle.std.specs.List.{range_with_len}
-use Rattle.vortex_types.specs.declared.scalar.Value.TheVariants.{Int}
-use Rattle.vortex_types.specs.declared.column.ColumnDesc.{ColumnDesc}
-use Rattle.vortex_types.specs.Row.{Column}
+use Rattle.vortex_array_types.specs.declared.scalar.Value.TheVariants.{Int}
+use Rattle.vortex_array_types.specs.declared.column.ColumnDesc.{ColumnDesc}
+use Rattle.vortex_array_types.specs.Row.{Column}
 use Rattle.vortex_io.specs.declared.order.Arrive.TheVariants.{OnWait}
 use Rattle.vortex_io.specs.declared.order.Order.{Order}
 use Rattle.vortex_io.specs.declared.order.Order.TheVariants.{First}

@@ -2,7 +2,7 @@
 use Rattle.std.proofs.Common.{◌≡◌, refl, ℕ, ◌+◌, ◌<◌, ◌≤◌, List, [], ◌∷◌, map, arith, inl, inr}
 use Rattle.std.specs.Prelude.{filter, flat_map}
 use Rattle.std.specs.List.{enumerate_from}
-use Rattle.vortex_types.specs.Cells.{Row}
+use Rattle.vortex_array_types.specs.Cells.{Row}
 use Rattle.vortex_table.specs.Chosen.{Placed, chosen, is_chosen, projected, placed_rows, all_rows}
 use Rattle.vortex_table.specs.Laws.{StandsBefore, ChosenAscend}
 use Rattle.vortex_table.proofs.Rising.{Each, Rising, pairs, each_more, each_append, rising_map, rising_filter, rising_append, numbered_rise}

@@ -5,11 +5,11 @@ use Rattle.std.specs.List.{cons_option, enumerate_from, filter_map, range_with_l
 use Rattle.std.specs.Str.{bytes_eq}
 use Rattle.std.proofs.lemmas.List.{length-map, length-take, map-append}
 use Rattle.std.proofs.lemmas.Slice.Eq.{bytes_eq-Decides}
-use Rattle.vortex_types.specs.declared.types.DType.{DType}
-use Rattle.vortex_types.specs.declared.scalar.Value.{Value}
-use Rattle.vortex_types.specs.declared.column.ColumnDesc.{ColumnDesc}
-use Rattle.vortex_types.specs.Cells.{Row, cell_of, dtype_of}
-use Rattle.vortex_types.specs.Typed.{filter_names}
+use Rattle.vortex_array_types.specs.declared.types.DType.{DType}
+use Rattle.vortex_array_types.specs.declared.scalar.Value.{Value}
+use Rattle.vortex_array_types.specs.declared.column.ColumnDesc.{ColumnDesc}
+use Rattle.vortex_array_types.specs.Cells.{Row, cell_of, dtype_of}
+use Rattle.vortex_array_types.specs.Typed.{filter_names}
 use Rattle.vortex_table.specs.declared.scan.request.Projection.{Projection}
 use Rattle.vortex_table.specs.declared.scan.request.Projection.TheVariants as projection
 use Rattle.vortex_table.specs.declared.scan.request.ScanRequest.{ScanRequest}

@@ -5,13 +5,13 @@ use Rattle.std.specs.List.{AllZip, cons_option, range_with_len}
 use Rattle.std.specs.Str.{bytes_eq}
 use Rattle.std.proofs.lemmas.List.{length-map}
 use Rattle.std.proofs.lemmas.Slice.Eq.{bytes_eq-Decides}
-use Rattle.vortex_types.specs.Cells.{Row, cell_of}
-use Rattle.vortex_types.specs.Truth.{keeps}
-use Rattle.vortex_types.specs.declared.types.PType.TheVariants as width
-use Rattle.vortex_types.specs.declared.types.Nullability.TheVariants as nullability
-use Rattle.vortex_types.specs.declared.types.DType.{DType}
-use Rattle.vortex_types.specs.declared.types.DType.TheVariants as dtype
-use Rattle.vortex_types.specs.declared.column.ColumnDesc.{ColumnDesc}
+use Rattle.vortex_array_types.specs.Cells.{Row, cell_of}
+use Rattle.vortex_array_types.specs.Truth.{keeps}
+use Rattle.vortex_array_types.specs.declared.types.PType.TheVariants as width
+use Rattle.vortex_array_types.specs.declared.types.Nullability.TheVariants as nullability
+use Rattle.vortex_array_types.specs.declared.types.DType.{DType}
+use Rattle.vortex_array_types.specs.declared.types.DType.TheVariants as dtype
+use Rattle.vortex_array_types.specs.declared.column.ColumnDesc.{ColumnDesc}
 use Rattle.vortex_io.specs.declared.request.IoTarget.TheVariants as target
 use Rattle.vortex_table.specs.declared.built.Comparison.{Comparison}
 use Rattle.vortex_table.specs.declared.chunk.Chunk.{Chunk}

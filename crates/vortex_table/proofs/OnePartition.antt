@@ -2,9 +2,9 @@
 use Rattle.std.proofs.Common.{◌≡◌, sym, refl, ℕ, ◌≤◌, List, [], ◌∷◌, length, Option, true, arith, append-nil}
 use Rattle.std.specs.Prelude.{All}
 use Rattle.std.specs.List.{AllZip}
-use Rattle.vortex_types.specs.Cells.{cell_of}
-use Rattle.vortex_types.specs.Truth.{keeps}
-use Rattle.vortex_types.specs.declared.column.ColumnDesc.{ColumnDesc}
+use Rattle.vortex_array_types.specs.Cells.{cell_of}
+use Rattle.vortex_array_types.specs.Truth.{keeps}
+use Rattle.vortex_array_types.specs.declared.column.ColumnDesc.{ColumnDesc}
 use Rattle.vortex_io.specs.Memory.{MemoryState}
 use Rattle.vortex_table.specs.declared.built.Comparison.{Comparison}
 use Rattle.vortex_table.specs.declared.chunk.Chunk.{Chunk}

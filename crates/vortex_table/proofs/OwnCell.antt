@@ -1,9 +1,9 @@
 -- The value of a row of one column, under that column's name.
 use Rattle.std.proofs.Common.{◌≡◌, ◌∙◌, ap, sym, ℕ, ◌<◌, ◌≤◌, List, [], ◌∷◌, Option, None, length, get_or, cond, true, arith}
 use Rattle.std.specs.Str.{bytes_eq}
-use Rattle.vortex_types.specs.Cells.{cell_of}
-use Rattle.vortex_types.specs.declared.column.ColumnDesc.{ColumnDesc}
-use Rattle.vortex_types.specs.declared.scalar.Value.{Value}
+use Rattle.vortex_array_types.specs.Cells.{cell_of}
+use Rattle.vortex_array_types.specs.declared.column.ColumnDesc.{ColumnDesc}
+use Rattle.vortex_array_types.specs.declared.scalar.Value.{Value}
 
 -- a list of one item is that item
 pub only_item : {X : Type 0} (xs : List X) (x : X) → 1 ≤ length xs → length xs < 2 → x ≡ get_or xs 0 x → xs ≡ x ∷ []

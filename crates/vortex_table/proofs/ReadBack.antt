@@ -3,14 +3,14 @@ use Rattle.std.proofs.Common.{◌≡◌, ◌∙◌, ◌<◌, ◌≤◌, ◌+◌,
 use Rattle.std.specs.Prelude.{pos, IsTrue, ◌&&◌}
 use Rattle.std.specs.List.{list_all}
 use Rattle.std.proofs.lemmas.List.{map-append, take_all, take_more}
-use Rattle.vortex_types.specs.declared.scalar.Value.{Value}
-use Rattle.vortex_types.specs.declared.scalar.Value.TheVariants as value
-use Rattle.vortex_types.specs.declared.types.DType.TheVariants as dtype
-use Rattle.vortex_types.specs.Row.{Column, fits_column, fits_type}
-use Rattle.vortex_columns.specs.declared.primitive.PrimitiveBuffer.{PrimitiveBuffer}
-use Rattle.vortex_columns.specs.declared.validity.Validity.{Validity}
-use Rattle.vortex_columns.specs.declared.validity.Validity.TheVariants.{NonNullable, AllValid, AllInvalid, Bits}
-use Rattle.vortex_columns.specs.Kinds.{nullability_of, numbers_of, primitive_column, ptype_of}
+use Rattle.vortex_array_types.specs.declared.scalar.Value.{Value}
+use Rattle.vortex_array_types.specs.declared.scalar.Value.TheVariants as value
+use Rattle.vortex_array_types.specs.declared.types.DType.TheVariants as dtype
+use Rattle.vortex_array_types.specs.Row.{Column, fits_column, fits_type}
+use Rattle.vortex_array_kinds.specs.declared.primitive.PrimitiveBuffer.{PrimitiveBuffer}
+use Rattle.vortex_array_kinds.specs.declared.validity.Validity.{Validity}
+use Rattle.vortex_array_kinds.specs.declared.validity.Validity.TheVariants.{NonNullable, AllValid, AllInvalid, Bits}
+use Rattle.vortex_array_kinds.specs.Kinds.{nullability_of, numbers_of, primitive_column, ptype_of}
 use Rattle.vortex_io.specs.Source.{Agrees}
 use Rattle.vortex_io.specs.declared.request.Fetch.{Fetch}
 use Rattle.vortex_io.specs.declared.request.IoResult.TheVariants as result

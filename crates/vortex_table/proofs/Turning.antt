@@ -4,8 +4,8 @@ use mathlib.Core.Logic.{⊎_elim}
 use Rattle.std.specs.Prelude.{AllPairs, Contains, Option, Some, None, nat_lt, filter, flat_map, ◌≢◌}
 use Rattle.std.specs.List.{AllZip}
 use Rattle.std.proofs.lemmas.List.{length-append, length-take, take_all}
-use Rattle.vortex_types.specs.declared.types.DType.{DType}
-use Rattle.vortex_types.specs.declared.column.ColumnDesc.{ColumnDesc}
+use Rattle.vortex_array_types.specs.declared.types.DType.{DType}
+use Rattle.vortex_array_types.specs.declared.column.ColumnDesc.{ColumnDesc}
 use Rattle.vortex_table.specs.declared.describe.PartitionDesc.{PartitionDesc}
 use Rattle.vortex_table.specs.declared.scan.batch.WorkScope.{WorkScope}
 use Rattle.vortex_table.specs.declared.scan.request.ScanRequest.{ScanRequest}

@@ -1,12 +1,12 @@
 -- What an answer of a scan is.
 use Rattle.std.specs.Prelude.{◌≡◌, ◌≢◌, ℕ, ◌<◌, ◌≤◌, ◌⊎◌, min, List, length, map, take, flat_map, sum_by, All, AllPairs, Contains, Bool, true, Option, Some, None, slice_get, unwrap_or}
 use Rattle.std.specs.List.{enumerate_from}
-use Rattle.vortex_types.specs.declared.types.DType.{DType}
-use Rattle.vortex_types.specs.declared.column.ColumnDesc.{ColumnDesc}
+use Rattle.vortex_array_types.specs.declared.types.DType.{DType}
+use Rattle.vortex_array_types.specs.declared.column.ColumnDesc.{ColumnDesc}
 use Rattle.vortex_table.specs.declared.describe.PartitionDesc.{PartitionDesc}
 use Rattle.vortex_table.specs.declared.scan.batch.WorkScope.{WorkScope}
 use Rattle.vortex_table.specs.declared.scan.request.ScanRequest.{ScanRequest}
-use Rattle.vortex_types.specs.Row.{Column}
+use Rattle.vortex_array_types.specs.Row.{Column}
 use Rattle.vortex_table.specs.Table.{Content, decoded, scopes_from}
 use Rattle.vortex_table.specs.Chosen.{Placed, chosen, projected_types, rows_in}
 

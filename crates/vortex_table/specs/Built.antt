@@ -1,16 +1,16 @@
 -- The forms of tables and requests that a scan answers today.
 use Rattle.std.specs.Prelude.{◌≡◌, ℕ, ◌&&◌, List, [], ◌∷◌, length, nat_le, Bool, true, false, Option, Some, None, is_some, is_none, find, not, ⊤}
-use Rattle.vortex_types.specs.declared.types.PType.TheVariants.{U64}
-use Rattle.vortex_types.specs.declared.types.Nullability.TheVariants.{NonNullable}
-use Rattle.vortex_types.specs.declared.types.DType.{DType}
-use Rattle.vortex_types.specs.declared.types.DType.TheVariants.{Primitive}
-use Rattle.vortex_types.specs.declared.column.ColumnDesc.{ColumnDesc}
-use Rattle.vortex_types.specs.declared.filter.Operand.{Operand}
-use Rattle.vortex_types.specs.declared.filter.Operand.TheVariants.{Column, Constant}
-use Rattle.vortex_types.specs.declared.filter.Filter.{Filter, fold-Filter}
-use Rattle.vortex_types.specs.declared.filter.Filter.TheOpen.{Filter-F}
-use Rattle.vortex_types.specs.Cells.{dtype_of}
-use Rattle.vortex_types.specs.Typed.{filter_names}
+use Rattle.vortex_array_types.specs.declared.types.PType.TheVariants.{U64}
+use Rattle.vortex_array_types.specs.declared.types.Nullability.TheVariants.{NonNullable}
+use Rattle.vortex_array_types.specs.declared.types.DType.{DType}
+use Rattle.vortex_array_types.specs.declared.types.DType.TheVariants.{Primitive}
+use Rattle.vortex_array_types.specs.declared.column.ColumnDesc.{ColumnDesc}
+use Rattle.vortex_array_types.specs.declared.filter.Operand.{Operand}
+use Rattle.vortex_array_types.specs.declared.filter.Operand.TheVariants.{Column, Constant}
+use Rattle.vortex_array_types.specs.declared.filter.Filter.{Filter, fold-Filter}
+use Rattle.vortex_array_types.specs.declared.filter.Filter.TheOpen.{Filter-F}
+use Rattle.vortex_array_types.specs.Cells.{dtype_of}
+use Rattle.vortex_array_types.specs.Typed.{filter_names}
 use Rattle.vortex_table.specs.State.{TableState}
 use Rattle.vortex_table.specs.Valid.{first_unknown}
 use Rattle.vortex_table.specs.declared.errors.ScanError.{ScanError}

@@ -1,6 +1,6 @@
 -- The column that a chunk stands for, and the content that a source tells.
 use Rattle.std.specs.Prelude.{List, map}
-use Rattle.vortex_types.specs.Row.{Column}
+use Rattle.vortex_array_types.specs.Row.{Column}
 use Rattle.vortex_array.specs.ColumnOf.{column_of}
 use Rattle.vortex_table.specs.declared.chunk.Chunk.{Chunk}
 use Rattle.vortex_table.specs.declared.chunk.Chunk.TheVariants.{Plain}

@@ -1,7 +1,7 @@
 -- Which descriptions make a table, and how many steps its scan may take.
 use Rattle.std.specs.Prelude.{◌≡◌, ◌≢◌, ℕ, ◌+◌, ◌*◌, ◌^◌, ◌<◌, List, [], length, sum_by, AllPairs, All, slice_index_or, ⊤}
 use Rattle.std.specs.List.{AllZip}
-use Rattle.vortex_types.specs.declared.column.ColumnDesc.{ColumnDesc}
+use Rattle.vortex_array_types.specs.declared.column.ColumnDesc.{ColumnDesc}
 use Rattle.vortex_io.specs.declared.request.Fetch.{Fetch}
 use Rattle.vortex_table.specs.declared.describe.ChunkDesc.{ChunkDesc}
 use Rattle.vortex_table.specs.declared.describe.SplitDesc.{SplitDesc}

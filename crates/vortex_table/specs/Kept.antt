@@ -1,7 +1,7 @@
 -- Which numbers a comparison keeps.
 use Rattle.std.specs.Prelude.{ℕ, pos, Bool, true, Option, Some, None}
-use Rattle.vortex_types.specs.Order.{compares}
-use Rattle.vortex_types.specs.declared.scalar.Value.TheVariants.{Int}
+use Rattle.vortex_array_types.specs.Order.{compares}
+use Rattle.vortex_array_types.specs.declared.scalar.Value.TheVariants.{Int}
 use Rattle.vortex_table.specs.declared.built.Comparison.{Comparison}
 
 -- whether the number passes the comparison, or there is none

@@ -5,8 +5,8 @@ use Rattle.vortex_table.specs.declared.scan.selection.Selection.TheVariants.{Inc
 use Rattle.vortex_table.specs.declared.scan.request.ScanRequest.{ScanRequest}
 use Rattle.vortex_table.specs.declared.describe.PartitionDesc.{PartitionDesc}
 use Rattle.vortex_table.specs.declared.scan.batch.WorkScope.{WorkScope}
-use Rattle.vortex_types.specs.declared.column.ColumnDesc.{ColumnDesc}
-use Rattle.vortex_types.specs.Cells.{Row}
+use Rattle.vortex_array_types.specs.declared.column.ColumnDesc.{ColumnDesc}
+use Rattle.vortex_array_types.specs.Cells.{Row}
 use Rattle.vortex_table.specs.Members.{in_selection}
 use Rattle.vortex_table.specs.Valid.{first_unknown}
 use Rattle.vortex_table.specs.Table.{Content, Decoded, FitsPartition, scopes_from}

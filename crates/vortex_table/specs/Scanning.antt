@@ -1,8 +1,8 @@
 -- What the parts of a scan of one column compute.
 use Rattle.std.specs.Prelude.{◌≡◌, Bool, true, false, ℕ, ◌+◌, ◌<◌, pos, nat_lt, List, [], ◌∷◌, ◌++◌, drop, length, map, filter, Option, Some, None, option_map, slice_index_or, if◌then◌else◌, All}
-use Rattle.vortex_types.specs.Row.{Column}
-use Rattle.vortex_types.specs.declared.scalar.Value.{Value}
-use Rattle.vortex_types.specs.declared.scalar.Value.TheVariants.{Int}
+use Rattle.vortex_array_types.specs.Row.{Column}
+use Rattle.vortex_array_types.specs.declared.scalar.Value.{Value}
+use Rattle.vortex_array_types.specs.declared.scalar.Value.TheVariants.{Int}
 use Rattle.vortex_array.specs.declared.arrays.Array.{Array}
 use Rattle.vortex_array.specs.declared.arrays.Array.TheVariants.{Primitive}
 use Rattle.vortex_io.specs.Memory.{MemoryState}

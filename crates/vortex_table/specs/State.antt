@@ -1,6 +1,6 @@
 -- What contracts see of a table, and what a call leaves of its sources.
 use Rattle.std.specs.Prelude.{◌≡◌, ℕ, ◌≤◌, List, [], ◌++◌, Option}
-use Rattle.vortex_types.specs.declared.column.ColumnDesc.{ColumnDesc}
+use Rattle.vortex_array_types.specs.declared.column.ColumnDesc.{ColumnDesc}
 use Rattle.vortex_io.specs.Memory.{MemoryState}
 use Rattle.vortex_io.specs.Source.{Content}
 use Rattle.vortex_io.specs.declared.order.Arrive.TheVariants.{OnWait}

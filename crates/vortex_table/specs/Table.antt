@@ -1,13 +1,13 @@
 -- A table: its description, the content of its sources, and the rows that both make.
 use Rattle.std.specs.Prelude.{◌≡◌, ℕ, ◌+◌, List, [], ◌∷◌, ◌++◌, length, map, zip, flat_map, None, slice_get, unwrap_or, IsTrue}
 use Rattle.std.specs.List.{range_with_len, AllZip}
-use Rattle.vortex_types.specs.declared.column.ColumnDesc.{ColumnDesc}
+use Rattle.vortex_array_types.specs.declared.column.ColumnDesc.{ColumnDesc}
 use Rattle.vortex_table.specs.declared.describe.ChunkDesc.{ChunkDesc}
 use Rattle.vortex_table.specs.declared.describe.SplitDesc.{SplitDesc}
 use Rattle.vortex_table.specs.declared.describe.PartitionDesc.{PartitionDesc}
 use Rattle.vortex_table.specs.declared.scan.batch.WorkScope.{WorkScope}
-use Rattle.vortex_types.specs.Row.{Column, fits_column}
-use Rattle.vortex_types.specs.Cells.{Row}
+use Rattle.vortex_array_types.specs.Row.{Column, fits_column}
+use Rattle.vortex_array_types.specs.Cells.{Row}
 
 -- what a source holds: for each split and each column a chunk, seen as a column
 abbrev pub Content : Type 0

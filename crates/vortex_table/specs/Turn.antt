@@ -1,8 +1,8 @@
 -- The batches in order of the table, one for each split that has chosen rows, and the rows of a batch.
 use Rattle.std.specs.Prelude.{nat_lt, List, length, map, filter}
 use Rattle.std.specs.List.{range_with_len}
-use Rattle.vortex_types.specs.declared.types.DType.{DType}
-use Rattle.vortex_types.specs.Cells.{Row}
+use Rattle.vortex_array_types.specs.declared.types.DType.{DType}
+use Rattle.vortex_array_types.specs.Cells.{Row}
 use Rattle.vortex_table.specs.declared.scan.batch.WorkScope.{WorkScope}
 use Rattle.vortex_table.specs.Table.{row_at}
 use Rattle.vortex_table.specs.Chosen.{Placed, rows_in}

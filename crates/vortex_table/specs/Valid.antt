@@ -1,8 +1,8 @@
 -- Valid requests: all names are known, and the filter meets the type rules.
 use Rattle.std.specs.Prelude.{◌≡◌, ℕ, List, [], ◌++◌, not, Option, None, find, is_some, IsTrue}
-use Rattle.vortex_types.specs.declared.column.ColumnDesc.{ColumnDesc}
-use Rattle.vortex_types.specs.Cells.{dtype_of}
-use Rattle.vortex_types.specs.Typed.{filter_names, well_typed}
+use Rattle.vortex_array_types.specs.declared.column.ColumnDesc.{ColumnDesc}
+use Rattle.vortex_array_types.specs.Cells.{dtype_of}
+use Rattle.vortex_array_types.specs.Typed.{filter_names, well_typed}
 use Rattle.vortex_table.specs.declared.scan.request.Projection.{Projection}
 use Rattle.vortex_table.specs.declared.scan.request.Projection.TheVariants.{All, Columns}
 use Rattle.vortex_table.specs.declared.scan.request.ScanRequest.{ScanRequest}

@@ -1,10 +1,10 @@
 // The forms of tables and requests that a scan answers today, and what they keep of a row.
 ghost use Rattle.std.specs.Prelude.{◌≡◌, ◌≤◌, ◌∷◌, [], length, ◌↔◌, ℕ, List, Option, pos, None, true, IfErr, IfOk, IfSome, OnOk, IsTrue, Some, is_some};
-ghost use Rattle.vortex_types.specs.Cells.{cell_of};
-ghost use Rattle.vortex_types.specs.Typed.{filter_names};
-ghost use Rattle.vortex_types.specs.Truth.{keeps};
-ghost use Rattle.vortex_types.specs.declared.scalar.Value.TheVariants.{Int};
-ghost use Rattle.vortex_types.specs.declared.scalar.Value.{Value as ArrayValue};
+ghost use Rattle.vortex_array_types.specs.Cells.{cell_of};
+ghost use Rattle.vortex_array_types.specs.Typed.{filter_names};
+ghost use Rattle.vortex_array_types.specs.Truth.{keeps};
+ghost use Rattle.vortex_array_types.specs.declared.scalar.Value.TheVariants.{Int};
+ghost use Rattle.vortex_array_types.specs.declared.scalar.Value.{Value as ArrayValue};
 ghost use Rattle.vortex_table.specs.Built.{HasCause, UnknownIn, is_built as is_built_form, is_one_u64, is_u64 as is_u64_type, is_unlimited as is_unlimited_request, is_comparison, is_whole as is_whole_projection, selects_all as selects_all_places, unknown_in};
 ghost use Rattle.vortex_table.specs.Valid.{first_unknown};
 ghost use Rattle.vortex_table.specs.Kept.{passes};
@@ -88,7 +88,7 @@ fn u64_constant(scalar: &Scalar) -> Option<u64>
 }
 
 /// What a filter of the built form keeps: the name of its column, and the comparison.
-#[tactic(auto, using(vortex_types::specs::declared::filter::Filter::the_lemmas))]
+#[tactic(auto, using(vortex_array_types::specs::declared::filter::Filter::the_lemmas))]
 fn comparison_in(filter: &Filter) -> Option<(&Name, Comparison)>
     ensures form { IsTrue (is_some result) ↔ IsTrue (is_comparison (Some filter.now)) }
     ensures name { IfSome result (λ c. filter_names (Some filter.now) ≡ c.0.now ∷ []) }

@@ -48,7 +48,7 @@ impl Chunk {
 }
 
 impl Payload for Chunk {
-    ghost use Rattle.vortex_types.specs.Row.{Column};
+    ghost use Rattle.vortex_array_types.specs.Row.{Column};
     ghost use Rattle.vortex_table.specs.ChunkOf.{chunk_column};
 
     ghost Meaning = { Column };

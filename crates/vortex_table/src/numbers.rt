@@ -1,10 +1,10 @@
 // The numbers of columns of `u64` without nulls.
 ghost use Rattle.std.specs.Prelude.{◌≡◌, ◌<◌, None, IfOk, IfSome, IsTrue, is_some, length, map, option_map, pos, slice_index_or};
 ghost use Rattle.vortex_array.specs.ColumnOf.{column_of};
-ghost use Rattle.vortex_columns.specs.Kinds.{numbers_of, primitive_column, ptype_of};
-ghost use Rattle.vortex_types.specs.Row.{fits_type};
-ghost use Rattle.vortex_types.specs.Seen.{value_seen};
-ghost use Rattle.vortex_types.specs.declared.types.PType.TheVariants as width;
+ghost use Rattle.vortex_array_kinds.specs.Kinds.{numbers_of, primitive_column, ptype_of};
+ghost use Rattle.vortex_array_types.specs.Row.{fits_type};
+ghost use Rattle.vortex_array_types.specs.Seen.{value_seen};
+ghost use Rattle.vortex_array_types.specs.declared.types.PType.TheVariants as width;
 ghost use Rattle.vortex_table.specs.Built.{u64_type};
 ghost use Rattle.vortex_table.specs.Scanning.{keeps_numbers, u64_column, u64_row};
 

@@ -1,5 +1,5 @@
 // Kernels that write the answers of a closure: into room, and where the lanes stand.
-use crate::samples::{ALL, HALF, bit, bits_of, lanes_of};
+use crate::samples::{ALL, HALF, asked, bit, bits_of, lanes_of};
 use std::alloc::Global;
 use std::cell::Cell;
 use vortex_buffer::BitBuffer;
@@ -97,15 +97,6 @@ fn maps_in_place(lanes: &[u64; 200], len: usize) -> bool {
 // What a kernel answers where this is the first lane that refuses, if it is one of so many.
 fn refusal(len: usize, first: usize) -> Result<(), usize> {
     if first < len { Err(first) } else { Ok(()) }
-}
-
-// How many lanes are asked: all, or those to the end of the group of 64 of the first that refuses.
-fn asked(len: usize, first: usize) -> u64 {
-    if first < len {
-        len.min((first / 64).saturating_mul(64).saturating_add(64)) as u64
-    } else {
-        len as u64
-    }
 }
 
 // The first lane from a limit on whose bit is set.

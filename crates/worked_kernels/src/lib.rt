@@ -7,6 +7,8 @@ mod bits;
 #[cfg(test)]
 mod buffers;
 #[cfg(test)]
+mod counting;
+#[cfg(test)]
 mod kernels;
 #[cfg(test)]
 mod lane_types;

@@ -1,8 +1,8 @@
 // Lists of bytes that are pushed, copied, cut out, kept and taken.
 use crate::samples::{ALL, HALF, NONE, mask_of, places_from, set_places};
 use std::alloc::{AllocError, Global};
+use vortex_array_rows::{ByteLists, places_below, set_places_below};
 use vortex_buffer::{BitBuffer, Mask};
-use vortex_rows::{ByteLists, places_below, set_places_below};
 
 // So many lists of none to three bytes.
 fn short_lists(alloc: Global, len: usize) -> Result<ByteLists, AllocError> {

@@ -4,14 +4,14 @@ use crate::samples::{
     ALL, HALF, NONE, PARTS, are_values_at, bit, bits_of, lanes_of, mask_of, places_from, set_places,
 };
 use std::alloc::Global;
-use vortex_buffer::{BitBuffer, Mask};
-use vortex_rows::{
-    Place, filter_bits, filter_items, first_set, places_below, set_places_below, slice_bits,
+use vortex_array_rows::{
+    RowIndex, filter_bits, filter_items, first_set, places_below, set_places_below, slice_bits,
     slice_items, take_bits, take_bits_or, take_items, take_items_or,
 };
+use vortex_buffer::{BitBuffer, Mask};
 
 // Whether these are the bits at the places of the first words, and false where there are fewer bits.
-fn are_bits_at<P: Place>(given: &BitBuffer, bits: &BitBuffer, places: &[P]) -> bool {
+fn are_bits_at<P: RowIndex>(given: &BitBuffer, bits: &BitBuffer, places: &[P]) -> bool {
     if given.len() != places.len() {
         return false;
     }
@@ -92,7 +92,7 @@ fn are_cut(alloc: Global, len: usize, start: usize, end: usize) -> bool {
 }
 
 // Whether values are taken at places that are all inside, and at places of which the null ones alone are past the end.
-fn takes_values<P: Place>(
+fn takes_values<P: RowIndex>(
     alloc: Global,
     values: &[u64],
     inside: &[P],

@@ -1,7 +1,7 @@
 // Lanes and bits that the tests share, and what is expected of them.
 use std::alloc::{AllocError, Global};
+use vortex_array_rows::RowIndex;
 use vortex_buffer::{BitBuffer, Buffer, Mask};
-use vortex_rows::Place;
 
 /// Lengths about the ends of words.
 pub(crate) const LENGTHS: [usize; 9] = [0, 1, 63, 64, 65, 127, 128, 129, 200];
@@ -45,6 +45,15 @@ pub(crate) fn lanes_of(len: usize, limit: usize) -> [u64; 200] {
         };
     }
     lanes
+}
+
+/// How many lanes are asked: all, or those to the end of the group of 64 of the first that refuses.
+pub(crate) fn asked(len: usize, first: usize) -> u64 {
+    if first < len {
+        len.min((first / 64).saturating_mul(64).saturating_add(64)) as u64
+    } else {
+        len as u64
+    }
 }
 
 /// Bit `i` of four words.
@@ -109,7 +118,7 @@ pub(crate) fn is_packed(words: &[u64; 5], want: &[u64; 4], len: usize) -> bool {
 }
 
 /// Whether the values are those at the places, and 9 where there is no such place.
-pub(crate) fn are_values_at<P: Place>(given: &[u64], values: &[u64], places: &[P]) -> bool {
+pub(crate) fn are_values_at<P: RowIndex>(given: &[u64], values: &[u64], places: &[P]) -> bool {
     if given.len() != places.len() {
         return false;
     }

@@ -1,10 +1,10 @@
 use Rattle.std.proofs.Common.{◌∙◌, ◌≡◌, ap, None}
 use Rattle.std.specs.Prelude.{IsTrue, replicate}
 use Rattle.std.proofs.lemmas.Result.{IfOk-weaker}
-use Rattle.vortex_types.specs.Order.{compares}
-use Rattle.vortex_types.specs.Row.{fits_type}
-use Rattle.vortex_types.specs.declared.types.Nullability.TheVariants as nulls
-use Rattle.vortex_columns.specs.Truths.{truths}
+use Rattle.vortex_array_types.specs.Order.{compares}
+use Rattle.vortex_array_types.specs.Row.{fits_type}
+use Rattle.vortex_array_types.specs.declared.types.Nullability.TheVariants as nulls
+use Rattle.vortex_array_kinds.specs.Truths.{truths}
 use Rattle.vortex_array.specs.ColumnOf.{column_of}
 use Rattle.vortex_array.proofs.Compared.{constant-null}
 use Rattle.vortex_array.proofs.compare.compare_constant.Goals as goal

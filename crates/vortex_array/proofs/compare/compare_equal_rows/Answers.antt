@@ -1,12 +1,12 @@
 use Rattle.std.proofs.Common.{◌∙◌, ◌≡◌, ap, None, Some}
 use Rattle.std.specs.Prelude.{IsTrue, replicate}
 use Rattle.std.proofs.lemmas.Result.{IfOk-weaker}
-use Rattle.vortex_types.specs.Order.{compares}
-use Rattle.vortex_types.specs.Row.{fits_type, nullability}
-use Rattle.vortex_types.specs.Seen.{value_seen}
-use Rattle.vortex_types.specs.declared.types.Nullability.{Nullability}
-use Rattle.vortex_types.specs.declared.types.Nullability.TheVariants as nulls
-use Rattle.vortex_columns.specs.Truths.{either, truths}
+use Rattle.vortex_array_types.specs.Order.{compares}
+use Rattle.vortex_array_types.specs.Row.{fits_type, nullability}
+use Rattle.vortex_array_types.specs.Seen.{value_seen}
+use Rattle.vortex_array_types.specs.declared.types.Nullability.{Nullability}
+use Rattle.vortex_array_types.specs.declared.types.Nullability.TheVariants as nulls
+use Rattle.vortex_array_kinds.specs.Truths.{either, truths}
 use Rattle.vortex_array.proofs.Compared.{equal-some, equal-null}
 use Rattle.vortex_array.proofs.compare.compare_equal_rows.Goals as goal
 

@@ -1,5 +1,5 @@
 use Rattle.std.proofs.Common.{◌∙◌, Some}
-use Rattle.vortex_types.specs.Seen.{value_seen}
+use Rattle.vortex_array_types.specs.Seen.{value_seen}
 use Rattle.vortex_array.proofs.Filling.{equal-filled}
 use Rattle.vortex_array.proofs.fill.fill_equal_rows.Goals as goal
 

@@ -1,5 +1,5 @@
 use Rattle.std.proofs.Common.{◌∙◌}
-use Rattle.vortex_types.specs.Seen.{value_seen}
+use Rattle.vortex_array_types.specs.Seen.{value_seen}
 use Rattle.vortex_array.proofs.Filling.{bytes-filled}
 use Rattle.vortex_array.proofs.fill.fill_lists.Goals as goal
 

@@ -2,12 +2,12 @@ use Rattle.std.proofs.Common.{◌∙◌, ap, subst, sym, Some}
 use Rattle.std.proofs.lemmas.Int.{to_z-of_z}
 use Rattle.std.specs.Prelude.{IsTrue}
 use mir.Syntax.{w128}
-use Rattle.vortex_types.specs.Row.{in_width}
-use Rattle.vortex_types.specs.Seen.{value_seen}
-use Rattle.vortex_types.specs.declared.types.DType.TheVariants as dtype
-use Rattle.vortex_types.specs.declared.scalar.Value.TheVariants as value
-use Rattle.vortex_columns.specs.Kinds.{nullability_of, ptype_of}
-use Rattle.vortex_casts.specs.Filled.{filled}
+use Rattle.vortex_array_types.specs.Row.{in_width}
+use Rattle.vortex_array_types.specs.Seen.{value_seen}
+use Rattle.vortex_array_types.specs.declared.types.DType.TheVariants as dtype
+use Rattle.vortex_array_types.specs.declared.scalar.Value.TheVariants as value
+use Rattle.vortex_array_kinds.specs.Kinds.{nullability_of, ptype_of}
+use Rattle.vortex_array_cast.specs.Filled.{filled}
 use Rattle.vortex_array.specs.ColumnOf.{primitive_column}
 use Rattle.vortex_array.specs.Single.{number_held}
 use Rattle.vortex_array.proofs.Filling.{number-in-width, number-filled}

@@ -1,5 +1,5 @@
 use Rattle.std.proofs.Common.{◌∙◌}
-use Rattle.vortex_columns.specs.Kinds.{nullability_of}
+use Rattle.vortex_array_kinds.specs.Kinds.{nullability_of}
 use Rattle.vortex_array.specs.ColumnOf.{bool_column}
 use Rattle.vortex_array.proofs.Filling.{truth-filled}
 use Rattle.vortex_array.proofs.fill.fill_truths.Goals as goal

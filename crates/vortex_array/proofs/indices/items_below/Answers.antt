@@ -4,6 +4,6 @@ use Rattle.vortex_array.proofs.indices.items_below.Goals as goal
 
 pub returns : goal.returns
 returns g c = (
-  λ h. below-numbers g.P.Place.place c.args.bound c.args.nulls.now c.args.places.now (rw c.as_slice.ensures at (c.valid_places_below.ensures.0 h)),
-  λ h. c.valid_places_below.ensures.1 (rw c.as_slice.ensures (numbers-below g.P.Place.place c.args.bound c.args.nulls.now c.args.places.now c.requires h)),
+  λ h. below-numbers g.P.RowIndex.place c.args.bound c.args.nulls.now c.args.places.now (rw c.as_slice.ensures at (c.valid_places_below.ensures.0 h)),
+  λ h. c.valid_places_below.ensures.1 (rw c.as_slice.ensures (numbers-below g.P.RowIndex.place c.args.bound c.args.nulls.now c.args.places.now c.requires h)),
 )

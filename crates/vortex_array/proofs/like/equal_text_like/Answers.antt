@@ -1,11 +1,11 @@
 use Rattle.std.proofs.Common.{◌∙◌, ◌≡◌, ap, None}
 use Rattle.std.specs.Prelude.{replicate}
 use Rattle.std.proofs.lemmas.Result.{IfOk-weaker}
-use Rattle.vortex_types.specs.Row.{nullability}
-use Rattle.vortex_types.specs.Truth.{is_like}
-use Rattle.vortex_types.specs.declared.scalar.Value.TheVariants as value
-use Rattle.vortex_types.specs.declared.types.Nullability.TheVariants as nulls
-use Rattle.vortex_columns.specs.Truths.{truths}
+use Rattle.vortex_array_types.specs.Row.{nullability}
+use Rattle.vortex_array_types.specs.Truth.{is_like}
+use Rattle.vortex_array_types.specs.declared.scalar.Value.TheVariants as value
+use Rattle.vortex_array_types.specs.declared.types.Nullability.TheVariants as nulls
+use Rattle.vortex_array_kinds.specs.Truths.{truths}
 use Rattle.vortex_array.proofs.Compared.{first-some, first-null}
 use Rattle.vortex_array.proofs.like.equal_text_like.Goals as goal
 

@@ -1,5 +1,5 @@
 use Rattle.std.proofs.Common.{refl}
-use Rattle.vortex_types.specs.Seen.{value_seen}
+use Rattle.vortex_array_types.specs.Seen.{value_seen}
 use Rattle.vortex_array.proofs.TextKinds.{no-text}
 use Rattle.vortex_array.proofs.like.text_of.Goals as goal
 

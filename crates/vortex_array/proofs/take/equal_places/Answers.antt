@@ -1,5 +1,5 @@
 use Rattle.std.proofs.Common.{◌≡◌, ◌∙◌, ◌++◌, ◌∷◌, [], ap, arith, replicate, sym}
-use Rattle.vortex_selections.proofs.EqualRows.{equal-more}
+use Rattle.vortex_array_select.proofs.EqualRows.{equal-more}
 use Rattle.vortex_array.proofs.take.equal_places.Goals as goal
 
 pub loop-preserved : goal.loop-preserved

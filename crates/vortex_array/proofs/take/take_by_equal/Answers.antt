@@ -1,6 +1,6 @@
 use Rattle.std.proofs.Common.{◌≡◌, ◌∙◌, ap, length, replicate, subst}
 use Rattle.std.specs.Prelude.{IsTrue}
-use Rattle.vortex_types.specs.Row.{TypedRow, fits_type}
+use Rattle.vortex_array_types.specs.Row.{TypedRow, fits_type}
 use Rattle.vortex_array.specs.ColumnOf.{column_of}
 use Rattle.vortex_array.specs.Index.{nulls_of_index, place_of_index}
 use Rattle.vortex_array.proofs.TakenAt.{equal-below, equal-taken, index-is}

@@ -11,7 +11,7 @@ f-answer-requires g c =
     let now = g.S.IndexedSource.lanes c.loop-i.values in
     let within : 0 + c.loop-i.i < length old = omega (arith, c.len-i-end.ensures) in
     let at : c.loop-i.i ≡ 0 + c.loop-i.i = omega arith in
-    may_ask _ c.args.f c.loop-i.f g.S.IndexedSink.reads_back 0 c.loop-i.i old now c.get.result (λ x. goal.F-pre g c.loop-i.f x) within (c.get.ensures ∙ ap (λ k. get_or now k c.get.result) at) c.loop-i.invariant.lanes (c.requires.callable c.loop-i.f)
+    may_ask (λ f x. goal.F-pre g f x) _ c.args.f c.loop-i.f g.S.IndexedSink.reads_back 0 c.loop-i.i old now c.get.result within (c.get.ensures ∙ ap (λ k. get_or now k c.get.result) at) c.loop-i.invariant.lanes c.requires.callable
 
 pub loop-i-preserved : goal.loop-i-preserved
 loop-i-preserved g c =

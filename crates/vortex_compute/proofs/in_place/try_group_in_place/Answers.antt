@@ -16,7 +16,7 @@ f-answer-requires g c =
     let old = g.S.IndexedSource.lanes c.args.values.now in
     let now = g.S.IndexedSource.lanes c.loop-bit.values in
     let within : c.args.base + c.loop-bit.bit < length old = omega arith in
-    may_ask _ c.args.f.now c.loop-bit.f (λ answer. g.S.IndexedSink.reads_back (unwrap_or answer g.S.Write.LaneDefault.its_default)) c.args.base c.loop-bit.bit old now c.get.result (λ x. goal.F-pre g c.loop-bit.f x) within c.get.ensures c.loop-bit.invariant.lanes.lanes (c.requires.callable c.loop-bit.f)
+    may_ask (λ f x. goal.F-pre g f x) _ c.args.f.now c.loop-bit.f (λ answer. g.S.IndexedSink.reads_back (unwrap_or answer g.S.Write.LaneDefault.its_default)) c.args.base c.loop-bit.bit old now c.get.result within c.get.ensures c.loop-bit.invariant.lanes.lanes c.requires.callable
 
 pub set-requires : goal.set-requires
 set-requires g c = omega (arith, c.loop-bit.invariant.lanes.lanes.long)

@@ -1,6 +1,6 @@
 use Rattle.std.proofs.Common.{arith, ap, sym, ◌∙◌, ◌≡◌, ◌+◌, ◌*◌, ◌/◌, ◌%◌, length, unwrap_or}
 use Rattle.std.specs.Int.Bits.{bit_and}
-use Rattle.vortex_compute.proofs.InPlaceSteps.{tried_none, tried_group_more, tried_fails, tried_whole}
+use Rattle.vortex_compute.proofs.InPlaceSteps.{tried_none, may_go_on, tried_group_more, tried_fails, tried_whole}
 use Rattle.vortex_compute.proofs.in_place.try_map_masked_in_place.Goals as goal
 
 pub loop-k-init : goal.loop-k-init
@@ -8,6 +8,9 @@ loop-k-init g c = record {
   lanes = tried_none _ c.args.f (λ answer. g.S.IndexedSink.reads_back (unwrap_or answer g.S.Write.LaneDefault.its_default)) c.args.mask.now (g.S.IndexedSource.lanes c.args.values.now);
   kept = g.met.S.IndexedSink.stays c.args.values.now;
 }
+
+pub try_group_in_place-requires-clause-callable : goal.try_group_in_place-requires-clause-callable
+try_group_in_place-requires-clause-callable g c = may_go_on (λ f x. goal.F-pre g f x) _ c.args.f c.loop-k.f _ (64 * c.loop-k.k) _ (g.S.IndexedSource.lanes c.args.values.now) (g.S.IndexedSource.lanes c.loop-k.values) c.loop-k.invariant.lanes c.requires.callable
 
 pub returns-then-failed-ne0-clause-err : goal.returns-then-failed-ne0-clause-err
 returns-then-failed-ne0-clause-err g c =
@@ -35,6 +38,11 @@ returns-then-rest-eq0-clause-ok g c =
     let old = g.S.IndexedSource.lanes c.args.values.now in
     let all : length old ≡ 64 * c.loop-k.k = omega (arith, c.len-len.ensures) in
     tried_whole _ c.args.f c.loop-k.f g.S.IndexedSink.reads_back g.S.Write.LaneDefault.its_default (64 * c.loop-k.k) c.args.mask.now old (g.S.IndexedSource.lanes c.loop-k.values) all c.loop-k.invariant.lanes
+
+pub try_group_in_place-requires-2-clause-callable : goal.try_group_in_place-requires-2-clause-callable
+try_group_in_place-requires-2-clause-callable g c =
+    let k : c.loop-k.k ≡ c.len-len.result / 64 = omega arith in
+    may_go_on (λ f x. goal.F-pre g f x) _ c.args.f c.loop-k.f _ (64 * (c.len-len.result / 64)) _ (g.S.IndexedSource.lanes c.args.values.now) (g.S.IndexedSource.lanes c.loop-k.values) (rw k at c.loop-k.invariant.lanes) c.requires.callable
 
 pub returns-then-failed-ne0-2-clause-err : goal.returns-then-failed-ne0-2-clause-err
 returns-then-failed-ne0-2-clause-err g c =

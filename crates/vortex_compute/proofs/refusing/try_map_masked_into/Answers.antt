@@ -10,7 +10,7 @@ loop-k-init g c = record { answers = []; each = tt; passes = λ i l. absurd (ome
 pub returns-then-failed-ne0-clause-err : goal.returns-then-failed-ne0-clause-err
 returns-then-failed-ne0-clause-err g c =
     let lanes = g.S.IndexedSource.lanes c.args.values.now in
-    rw (c.failed_lane.ensures, c.word.ensures) (masked_fails _ g.R.LaneDefault.its_default lanes c.args.mask.now c.loop-k.out c.try_group.new.out c.loop-k.k 64 c.try_group.result (omega arith) (omega (arith, c.len-len.ensures)) c.loop-k.invariant c.try_group.ensures (λ e. c.if-failed-ne0.true (ap (bit_and c.try_group.result) c.word.ensures ∙ e)))
+    rw (c.failed_lane.ensures, c.word.ensures) (masked_fails _ g.R.LaneDefault.its_default lanes c.args.mask.now c.loop-k.out c.try_group.new.out c.loop-k.k 64 c.try_group.result (omega (arith, c.len-len.ensures)) c.loop-k.invariant c.try_group.ensures (λ e. c.if-failed-ne0.true (ap (bit_and c.try_group.result) c.word.ensures ∙ e)))
 
 pub loop-k-preserved : goal.loop-k-preserved
 loop-k-preserved g c =
@@ -23,7 +23,7 @@ returns-then-failed-ne0-2-clause-err g c =
     let len = c.len-len.result in
     let k : c.loop-k.k ≡ len / 64 = omega arith in
     let so_far = rw k at c.loop-k.invariant in
-    rw (c.failed_lane-then-failed-ne0-2.ensures, c.word-2.ensures) (masked_fails _ g.R.LaneDefault.its_default lanes c.args.mask.now c.loop-k.out c.try_group-2.new.out (len / 64) (len % 64) c.try_group-2.result (omega arith) (omega (arith, c.len-len.ensures)) so_far c.try_group-2.ensures (λ e. c.if-failed-ne0-2.true (ap (bit_and c.try_group-2.result) c.word-2.ensures ∙ e)))
+    rw (c.failed_lane-then-failed-ne0-2.ensures, c.word-2.ensures) (masked_fails _ g.R.LaneDefault.its_default lanes c.args.mask.now c.loop-k.out c.try_group-2.new.out (len / 64) (len % 64) c.try_group-2.result (omega (arith, c.len-len.ensures)) so_far c.try_group-2.ensures (λ e. c.if-failed-ne0-2.true (ap (bit_and c.try_group-2.result) c.word-2.ensures ∙ e)))
 
 pub returns-clause-ok : goal.returns-clause-ok
 returns-clause-ok g c =

@@ -1,5 +1,5 @@
 use Rattle.std.proofs.Common.{◌≡◌, map, take}
-use Rattle.vortex_types.specs.Cells.{cell_of}
+use Rattle.vortex_array_types.specs.Cells.{cell_of}
 use Rattle.vortex_judge.proofs.chosen.values_of.Given as goal
 
 abbrev pub invariant-loop-column : goal.invariant-loop-column

@@ -1,5 +1,5 @@
 use Rattle.std.proofs.Common.{◌∙◌, sym, chars}
-use Rattle.vortex_types.specs.Matches.{matches_chars}
+use Rattle.vortex_array_types.specs.Matches.{matches_chars}
 use Rattle.vortex_judge.proofs.Patterns.{escaped-nil, suffix-whole}
 use Rattle.vortex_judge.proofs.like.+like.Goals as goal
 

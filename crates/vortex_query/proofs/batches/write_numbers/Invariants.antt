@@ -1,6 +1,6 @@
 use Rattle.std.proofs.Common.{Some, List, ℕ, ◌++◌, map, take}
 use Rattle.std.specs.List.{flat_map}
-use Rattle.vortex_types.specs.declared.column.ColumnDesc.{ColumnDesc}
+use Rattle.vortex_array_types.specs.declared.column.ColumnDesc.{ColumnDesc}
 use Rattle.vortex_query.specs.Shown.{Holds, IsOneU64Column, number_row}
 use Rattle.vortex_query.specs.Text.{line_text}
 use Rattle.vortex_query.proofs.batches.write_numbers.Given as goal

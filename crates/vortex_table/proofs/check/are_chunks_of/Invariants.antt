@@ -1,6 +1,6 @@
 use Rattle.std.proofs.Common.{ℕ, ◌<◌}
 use Rattle.std.specs.Prelude.{slice_index_or}
-use Rattle.vortex_types.specs.declared.column.ColumnDesc.{ColumnDesc}
+use Rattle.vortex_array_types.specs.declared.column.ColumnDesc.{ColumnDesc}
 use Rattle.vortex_table.specs.declared.describe.ChunkDesc.{ChunkDesc}
 use Rattle.vortex_table.specs.Described.{IsChunkOf}
 use Rattle.vortex_table.proofs.check.are_chunks_of.Given as goal

@@ -1,5 +1,5 @@
 use Rattle.std.proofs.Common.{◌∙◌, ap, sym}
-use Rattle.vortex_columns.specs.Kinds.{numbers_of}
+use Rattle.vortex_array_kinds.specs.Kinds.{numbers_of}
 use Rattle.vortex_table.proofs.ReadBack.{values_written}
 use Rattle.vortex_table.proofs.numbers.u64_values.Goals as goal
 

@@ -1,6 +1,6 @@
 use Rattle.std.proofs.Common.{◌∙◌, ap}
 use Rattle.std.specs.Prelude.{filter}
-use Rattle.vortex_types.specs.Row.{Column}
+use Rattle.vortex_array_types.specs.Row.{Column}
 use Rattle.vortex_table.specs.ChunkOf.{chunk_column}
 use Rattle.vortex_table.specs.Kept.{passes}
 use Rattle.vortex_table.proofs.ReadBack.{column_read, oldest_read}

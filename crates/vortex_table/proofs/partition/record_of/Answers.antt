@@ -1,10 +1,10 @@
 use Rattle.std.proofs.Common.{◌≡◌, ◌∙◌, ap, refl, List, ◌++◌, [], ◌∷◌, map}
 use Rattle.vortex_array.specs.ColumnOf.{column_of, primitive_column}
-use Rattle.vortex_columns.specs.Parts.{PrimitiveParts}
+use Rattle.vortex_array_kinds.specs.Parts.{PrimitiveParts}
 use Rattle.vortex_array.specs.declared.arrays.Array.{Array}
 use Rattle.vortex_array.specs.declared.arrays.Array.TheVariants.{Primitive}
-use Rattle.vortex_columns.specs.declared.primitive.PrimitiveBuffer.TheVariants.{U64}
-use Rattle.vortex_columns.specs.declared.validity.Validity.TheVariants.{NonNullable}
+use Rattle.vortex_array_kinds.specs.declared.primitive.PrimitiveBuffer.TheVariants.{U64}
+use Rattle.vortex_array_kinds.specs.declared.validity.Validity.TheVariants.{NonNullable}
 use Rattle.vortex_table.proofs.ReadBack.{values_written}
 use Rattle.vortex_table.proofs.partition.record_of.Goals as goal
 

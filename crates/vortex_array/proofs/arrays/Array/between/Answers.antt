@@ -1,7 +1,7 @@
 use Rattle.std.proofs.Common.{◌∙◌, ◌≡◌, sym, ap, length}
-use Rattle.vortex_types.specs.Row.{Column}
-use Rattle.vortex_types.specs.Truth.{lower_operator, upper_operator}
-use Rattle.vortex_columns.specs.Truths.{compared, joined_strictly}
+use Rattle.vortex_array_types.specs.Row.{Column}
+use Rattle.vortex_array_types.specs.Truth.{lower_operator, upper_operator}
+use Rattle.vortex_array_kinds.specs.Truths.{compared, joined_strictly}
 use Rattle.vortex_array.specs.ColumnOf.{bool_column, column_of}
 use Rattle.vortex_array.proofs.Compared.{between-joined, length-compared}
 use Rattle.vortex_array.proofs.arrays.Array.between.Goals as goal

@@ -1,5 +1,5 @@
 use Rattle.vortex_array.specs.ColumnOf.{column_of}
-use Rattle.vortex_extremes.proofs.ExtremeValues.{are-extremes}
+use Rattle.vortex_array_order.proofs.ExtremeValues.{are-extremes}
 use Rattle.vortex_array.proofs.arrays.Array.min_max_at.Goals as goal
 
 pub returns : goal.returns

@@ -1,0 +1,223 @@
+// Columns of texts matched with patterns, which are lent: no text is copied, and no row takes memory.
+ghost use Rattle.std.specs.Prelude.{◌≡◌, ◌<◌, [], All, IfOk, IsTrue, IsUtf8, length, map, slice_index_or};
+ghost use Rattle.std.specs.Simd.Lanes.{zip2};
+ghost use Rattle.std.specs.Str.{is_utf8};
+ghost use Rattle.vortex_array_types.specs.Matches.{matches};
+ghost use Rattle.vortex_array_types.specs.declared.scalar.Value.TheVariants as value;
+ghost use Rattle.vortex_array_types.specs.declared.types.DType.TheVariants as dtype;
+ghost use Rattle.vortex_array_kinds.specs.ByteRows.{is_text_type};
+ghost use Rattle.vortex_array_kinds.specs.Kinds.{bool_column};
+ghost use Rattle.vortex_array_kinds.specs.Truths.{liked};
+ghost use Rattle.vortex_array_compare.specs.Repeated.{repeated};
+
+use crate::answering::answer_column;
+use std::alloc::{AllocError, Global};
+use vortex_array_kinds::{BoolArray, Validity, VarBinViewArray, validity_of_rows};
+use vortex_array_predicates::{LentPattern, text_matches};
+use vortex_array_rows::ByteLists;
+use vortex_array_types::Nullability;
+use vortex_buffer::BitBuffer;
+use vortex_compute::{IndexedSource, collect_lane_bits};
+
+// Bytes that are UTF-8, as text. They are not tested again.
+#[inline(always)]
+fn as_text(bytes: &[u8]) -> &str
+    requires { IsUtf8 bytes.now }
+    ensures { result.now ≡ bytes.now }
+{
+    unsafe { std::str::from_utf8_unchecked(bytes) }
+}
+
+// The text at a place.
+#[inline]
+fn text_at(texts: &ByteLists, i: usize) -> &str
+    requires inside { i < length texts.now }
+    requires texts { All (λ bytes. IsTrue (is_utf8 bytes)) texts.now }
+    ensures { result.now ≡ slice_index_or texts.now i [] }
+{
+    as_text(texts.get(i))
+}
+
+// Texts and patterns, as many of both: whether the text at each place matches the pattern there.
+#[derive(Clone, Copy)]
+struct TextPairs<'a> {
+    texts: &'a ByteLists,
+    patterns: &'a ByteLists,
+    ghost same_length: { length texts.now ≡ length patterns.now },
+    ghost texts_are: { All (λ bytes. IsTrue (is_utf8 bytes)) texts.now },
+    ghost patterns_are: { All (λ bytes. IsTrue (is_utf8 bytes)) patterns.now },
+}
+
+impl IndexedSource for TextPairs<'_> {
+    type Item = bool;
+
+    ghost lanes = { λ s. zip2 (λ text pattern. matches pattern text) s.texts.now s.patterns.now };
+
+    #[inline(always)]
+    fn len(&self) -> usize {
+        self.texts.len()
+    }
+
+    #[inline(always)]
+    fn get(&self, i: usize) -> bool {
+        text_matches(text_at(self.texts, i), text_at(self.patterns, i))
+    }
+}
+
+// Texts and one pattern, which is looked at once: whether each of them matches it.
+#[derive(Clone, Copy)]
+struct TextsBeside<'a> {
+    texts: &'a ByteLists,
+    pattern: &'a LentPattern<'a>,
+    ghost texts_are: { All (λ bytes. IsTrue (is_utf8 bytes)) texts.now },
+}
+
+impl IndexedSource for TextsBeside<'_> {
+    type Item = bool;
+
+    ghost lanes = { λ s. map (λ text. matches s.pattern.now text) s.texts.now };
+
+    #[inline(always)]
+    fn len(&self) -> usize {
+        self.texts.len()
+    }
+
+    #[inline(always)]
+    fn get(&self, i: usize) -> bool {
+        self.pattern.matches(text_at(self.texts, i))
+    }
+}
+
+// Patterns and one text: whether it matches each of them.
+#[derive(Clone, Copy)]
+struct PatternsBeside<'a> {
+    patterns: &'a ByteLists,
+    text: &'a str,
+    ghost patterns_are: { All (λ bytes. IsTrue (is_utf8 bytes)) patterns.now },
+}
+
+impl IndexedSource for PatternsBeside<'_> {
+    type Item = bool;
+
+    ghost lanes = { λ s. map (λ pattern. matches pattern s.text.now) s.patterns.now };
+
+    #[inline(always)]
+    fn len(&self) -> usize {
+        self.patterns.len()
+    }
+
+    #[inline(always)]
+    fn get(&self, i: usize) -> bool {
+        text_matches(self.text, text_at(self.patterns, i))
+    }
+}
+
+// The truths of a source, as bits.
+#[inline]
+fn truth_bits<S: IndexedSource<Item = bool>>(
+    alloc: Global,
+    truths: &S,
+) -> Result<BitBuffer, AllocError>
+    ensures { IfOk result (λ bits. bits ≡ S.lanes truths.now) }
+{
+    let bits = collect_lane_bits(alloc, truths, |truth: bool| truth)?;
+    Ok(bits)
+}
+
+// The answers for as many texts and patterns.
+fn pair_bits(
+    alloc: Global,
+    texts: &ByteLists,
+    patterns: &ByteLists,
+) -> Result<BitBuffer, AllocError>
+    requires same_length { length texts.now ≡ length patterns.now }
+    requires texts { All IsUtf8 texts.now }
+    requires patterns { All IsUtf8 patterns.now }
+    ensures { IfOk result (λ bits. bits ≡ zip2 (λ text pattern. matches pattern text) texts.now patterns.now) }
+{
+    let bits = truth_bits(alloc, &TextPairs { texts, patterns })?;
+    Ok(bits)
+}
+
+// The answers for texts and one pattern.
+fn pattern_bits(alloc: Global, texts: &ByteLists, pattern: &str) -> Result<BitBuffer, AllocError>
+    requires texts { All IsUtf8 texts.now }
+    ensures { IfOk result (λ bits. bits ≡ map (λ text. matches pattern.now text) texts.now) }
+{
+    let pattern = LentPattern::new(pattern);
+    let bits = truth_bits(
+        alloc,
+        &TextsBeside {
+            texts,
+            pattern: &pattern,
+        },
+    )?;
+    Ok(bits)
+}
+
+// The answers for patterns and one text.
+fn text_bits(alloc: Global, text: &str, patterns: &ByteLists) -> Result<BitBuffer, AllocError>
+    requires patterns { All IsUtf8 patterns.now }
+    ensures { IfOk result (λ bits. bits ≡ map (λ pattern. matches pattern text.now) patterns.now) }
+{
+    let bits = truth_bits(alloc, &PatternsBeside { patterns, text })?;
+    Ok(bits)
+}
+
+/// Row by row whether the text matches the pattern, of two columns of texts of one length, null where a row is null.
+pub fn like_patterns(
+    alloc: Global,
+    texts: &VarBinViewArray,
+    patterns: &VarBinViewArray,
+) -> Result<BoolArray, AllocError>
+    requires same_length { length texts.now.rows ≡ length patterns.now.rows }
+    requires texts { IsTrue (is_text_type texts.now.dtype) }
+    requires patterns { IsTrue (is_text_type patterns.now.dtype) }
+    ensures { IfOk result (λ a. bool_column a ≡ liked texts.now patterns.now) }
+{
+    let text_parts = texts.parts();
+    let pattern_parts = patterns.parts();
+    let text_validity = validity_of_rows(alloc, texts.dtype(), text_parts.present)?;
+    let pattern_validity = validity_of_rows(alloc, patterns.dtype(), pattern_parts.present)?;
+    let bits = pair_bits(alloc, text_parts.lists, pattern_parts.lists)?;
+    let column = answer_column(alloc, bits, &text_validity, &pattern_validity)?;
+    Ok(column)
+}
+
+/// Row by row whether the text matches one pattern, null where the row is null. The type has nulls where the column's or
+/// the pattern's has.
+pub fn like_pattern(
+    alloc: Global,
+    texts: &VarBinViewArray,
+    pattern: &str,
+    nullability: Nullability,
+) -> Result<BoolArray, AllocError>
+    requires texts { IsTrue (is_text_type texts.now.dtype) }
+    ensures { IfOk result (λ a. bool_column a ≡ liked texts.now (repeated (dtype.Utf8 nullability) (value.Utf8 pattern.now) (length texts.now.rows))) }
+{
+    let parts = texts.parts();
+    let pattern_validity = Validity::of_values(nullability);
+    let text_validity = validity_of_rows(alloc, texts.dtype(), parts.present)?;
+    let bits = pattern_bits(alloc, parts.lists, pattern)?;
+    let column = answer_column(alloc, bits, &text_validity, &pattern_validity)?;
+    Ok(column)
+}
+
+/// Row by row whether one text matches the pattern, null where the row is null. The type has nulls where the column's or
+/// the text's has.
+pub fn text_like_patterns(
+    alloc: Global,
+    text: &str,
+    nullability: Nullability,
+    patterns: &VarBinViewArray,
+) -> Result<BoolArray, AllocError>
+    requires patterns { IsTrue (is_text_type patterns.now.dtype) }
+    ensures { IfOk result (λ a. bool_column a ≡ liked (repeated (dtype.Utf8 nullability) (value.Utf8 text.now) (length patterns.now.rows)) patterns.now) }
+{
+    let parts = patterns.parts();
+    let text_validity = Validity::of_values(nullability);
+    let pattern_validity = validity_of_rows(alloc, patterns.dtype(), parts.present)?;
+    let bits = text_bits(alloc, text, parts.lists)?;
+    let column = answer_column(alloc, bits, &text_validity, &pattern_validity)?;
+    Ok(column)
+}

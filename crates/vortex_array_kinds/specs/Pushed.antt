@@ -1,0 +1,20 @@
+-- Which rows a column of texts or bytes takes.
+use Rattle.std.specs.Prelude.{ℕ, IsTrue, IsFalse, List, Option, Some, None, IsUtf8}
+use Rattle.vortex_array_types.specs.Row.{is_nullable}
+use Rattle.vortex_array_types.specs.declared.types.DType.{DType}
+use Rattle.vortex_array_kinds.specs.ByteRows.{is_text_type}
+use Rattle.vortex_array_kinds.specs.declared.var_bin.PushError.{PushError}
+use Rattle.vortex_array_kinds.specs.declared.var_bin.PushError.TheVariants.{WrongType, NotUtf8, OutOfMemory}
+
+-- null in a type with nulls; in a type of texts UTF-8
+abbrev pub Admits : DType → Option (List ℕ) → Type 0
+Admits t None = IsTrue (is_nullable t)
+Admits t (Some bytes) = IsTrue (is_text_type t) → IsUtf8 bytes
+
+-- why a row is refused
+abbrev pub Refuses : DType → Option (List ℕ) → PushError → Type 0
+Refuses t None WrongType = IsFalse (is_nullable t)
+Refuses t None NotUtf8 = ⊥
+Refuses t (Some bytes) WrongType = ⊥
+Refuses t (Some bytes) NotUtf8 = IsTrue (is_text_type t) × (¬ IsUtf8 bytes)
+Refuses t row OutOfMemory = Admits t row

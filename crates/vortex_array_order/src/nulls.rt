@@ -1,0 +1,67 @@
+// Where the nulls of a column stand: the validity is looked at once, by words.
+ghost use Rattle.std.specs.Prelude.{◌≡◌, ◌<◌, ◌≤◌, ℕ, IfNone, IfSome, IsTrue, IsFalse, false, true, length, slice_index_or};
+ghost use Rattle.vortex_array_kinds.specs.Validities.{is_as_long, valid_bits};
+ghost use Rattle.vortex_array_order.specs.Nulls.{NullBehind, NullsFirst};
+
+use vortex_array_kinds::Validity;
+use vortex_array_rows::first_set;
+use vortex_buffer::BitBuffer;
+
+/// How many nulls come first where no row behind them is null, or none where a null stands behind a value.
+pub(crate) fn nulls_first(validity: &Validity, len: usize) -> Option<usize>
+    requires { IsTrue (is_as_long validity.now len) }
+    ensures first { IfSome result (λ n. NullsFirst (valid_bits validity.now len) n) }
+    ensures behind { IfNone result (NullBehind (valid_bits validity.now len)) }
+{
+    match validity {
+        Validity::NonNullable => Some(0),
+        Validity::AllValid => Some(0),
+        Validity::AllInvalid => Some(len),
+        Validity::Bits(bits) => unset_first(bits),
+    }
+}
+
+// How many bits come before the first that is set where all behind it are set too, or none where one is not.
+fn unset_first(bits: &BitBuffer) -> Option<usize>
+    ensures first { IfSome result (λ n. NullsFirst bits.now n) }
+    ensures behind { IfNone result (NullBehind bits.now) }
+{
+    match first_set(bits) {
+        None => Some(bits.len()),
+        Some(first) => {
+            if bits.count() == bits.len() - first {
+                Some(first)
+            } else {
+                None
+            }
+        }
+    }
+}
+
+/// The same of rows of which these are values.
+pub(crate) fn absent_first(present: &[bool]) -> Option<usize>
+    ensures first { IfSome result (λ n. NullsFirst present.now n) }
+    ensures behind { IfNone result (NullBehind present.now) }
+{
+    let first = first_present(present);
+    for i in first..present.len() {
+        if !present[i] {
+            return None;
+        }
+    }
+    Some(first)
+}
+
+// The place of the first row that is a value, or how many rows there are.
+fn first_present(present: &[bool]) -> usize
+    ensures within { result ≤ length present.now }
+    ensures before { (i : ℕ) → i < result → slice_index_or present.now i false ≡ false }
+    ensures set { result < length present.now → slice_index_or present.now result false ≡ true }
+{
+    for i in 0..present.len() {
+        if present[i] {
+            return i;
+        }
+    }
+    present.len()
+}

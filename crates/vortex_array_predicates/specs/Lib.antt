@@ -1,0 +1,4 @@
+pub mod Asked
+pub mod Predicates
+pub mod Outcomes
+pub mod Forms

@@ -1,0 +1,275 @@
+// Lists of bytes, as texts and binary values are, one after another in one buffer.
+ghost use Rattle.std.specs.Prelude.{◌≡◌, ◌==◌, ◌<◌, ◌≤◌, ◌+◌, ◌-◌, ◌^◌, ◌++◌, ◌∷◌, [], All, EachIndex, List, ℕ, true, cond, length, map, IfOk, OnOk, OnErr, slice_index, slice_index_or, slice_range, vec_capacity, vec_len};
+ghost use Rattle.vortex_buffer.specs.Mask.{mask_bits};
+ghost use Rattle.vortex_array_rows.specs.Kept.{kept_by};
+ghost use Rattle.vortex_array_rows.specs.Pieces.{pieces, IsChain, start_at};
+ghost use Rattle.vortex_array_rows.specs.Taken.{SetPlacesBelow, taken_or};
+
+use crate::kept_lists::filter_lists;
+use crate::places::RowIndex;
+use std::alloc::Global;
+use std::marker::Model;
+use vortex_buffer::{AllocError, BitBuffer, Mask};
+
+/// Lists of bytes, one after another in one buffer. Contracts see the list of them.
+pub struct ByteLists {
+    bytes: Vec<u8>,
+    ends: Vec<usize>,
+}
+
+impl Drop for ByteLists {
+    fn drop(self) {
+        let ByteLists {
+            bytes: _bytes,
+            ends: _ends,
+        } = self;
+    }
+}
+
+impl Model for ByteLists {
+    ghost use Rattle.std.specs.Prelude.{List, ℕ, length};
+    ghost use Rattle.vortex_array_rows.specs.Pieces.{pieces, IsChain};
+
+    ghost Value = { List (List ℕ) };
+
+    ghost view = { λ b. pieces b.bytes.items 0 b.ends.items };
+
+    ghost invariant = { λ b. IsChain 0 b.ends.items (length b.bytes.items) };
+}
+
+impl ByteLists {
+    /// No list yet. It takes no memory.
+    pub fn new(alloc: Global) -> ByteLists
+        ensures { result ≡ [] }
+    {
+        ByteLists {
+            bytes: Vec::new(alloc),
+            ends: Vec::new(alloc),
+        }
+    }
+
+    // No list yet, and room for the ends of so many.
+    pub(crate) fn with_ends(alloc: Global, count: usize) -> Result<ByteLists, AllocError>
+        ensures { IfOk result (λ lists. lists ≡ []) }
+    {
+        Ok(ByteLists {
+            bytes: Vec::new(alloc),
+            ends: Vec::with_capacity(alloc, count)?,
+        })
+    }
+
+    /// How many lists of bytes there are.
+    pub fn len(&self) -> usize
+        ensures { result ≡ length self.now }
+    {
+        self.ends.len()
+    }
+
+    /// Whether there is none.
+    pub fn is_empty(&self) -> bool
+        ensures { result ≡ (length self.now == 0) }
+    {
+        self.len() == 0
+    }
+
+    /// The bytes of list `i`.
+    pub fn get(&self, i: usize) -> &[u8]
+        requires { i < length self.now }
+        ensures { result.now ≡ slice_index_or self.now i [] }
+    {
+        piece(&self.bytes, &self.ends, i)
+    }
+
+    /// Puts a list of bytes behind the others. Where memory runs out, nothing has changed.
+    pub fn push(&mut self, value: &[u8]) -> Result<(), AllocError>
+        ensures pushed { OnOk result (self.new ≡ self.old ++ value.now ∷ []) }
+        ensures kept { OnErr result (self.new ≡ self.old) }
+    {
+        self.ends.reserve(1)?;
+        self.bytes.extend_from_slice(value)?;
+        let end = self.bytes.len();
+        let _ = self.ends.push(end);
+        Ok(())
+    }
+
+    // Puts the lists of others from `start` up to `end` behind these, their bytes as one run. Where memory runs out, nothing
+    // has changed.
+    pub(crate) fn push_part(
+        &mut self,
+        lists: &ByteLists,
+        start: usize,
+        end: usize,
+    ) -> Result<(), AllocError>
+        requires order { start ≤ end }
+        requires within { end ≤ length lists.now }
+        ensures pushed { OnOk result (self.new ≡ self.old ++ slice_range lists.now start end) }
+        ensures kept { OnErr result (self.new ≡ self.old) }
+    {
+        let (from, to) = run_of(lists.bytes.len(), &lists.ends, start, end);
+        let before = self.bytes.len();
+        self.ends.reserve(end - start)?;
+        self.bytes.extend_from_slice(&lists.bytes[from..to])?;
+        push_moved(&mut self.ends, &lists.ends[start..end], from, before);
+        Ok(())
+    }
+
+    /// The lists from `start` up to `end`, without it. Their bytes are copied as one run.
+    pub fn slice(&self, alloc: Global, start: usize, end: usize) -> Result<ByteLists, AllocError>
+        requires order { start ≤ end }
+        requires within { end ≤ length self.now }
+        ensures ok { IfOk result (λ part. part ≡ slice_range self.now start end) }
+    {
+        part_of(alloc, &self.bytes, &self.ends, start, end)
+    }
+
+    /// The lists whose bit is set in the mask, in their order.
+    pub fn filter(&self, alloc: Global, mask: &Mask) -> Result<ByteLists, AllocError>
+        requires same_length { length (mask_bits mask.now) ≡ length self.now }
+        ensures ok { IfOk result (λ kept. kept ≡ kept_by (mask_bits mask.now) self.now) }
+    {
+        match mask {
+            Mask::AllTrue(_) => self.try_clone(alloc),
+            Mask::AllFalse(_) => Ok(ByteLists::new(alloc)),
+            Mask::Values(bits) => filter_lists(alloc, self, bits),
+        }
+    }
+
+    /// The lists at the places, in the order of the places. A place may come again.
+    pub fn take<P: RowIndex>(&self, alloc: Global, places: &[P]) -> Result<ByteLists, AllocError>
+        requires within { All (λ place. place < length self.now) (map P.place places.now) }
+        ensures ok { IfOk result (λ taken. taken ≡ map (λ place. slice_index_or self.now place []) (map P.place places.now)) }
+    {
+        let mut taken = ByteLists::new(alloc);
+        for place in places {
+            taken.push(self.get(place.place()))?;
+        }
+        Ok(taken)
+    }
+
+    /// The lists at the places whose bit is set, and the empty list in the others' rows. A place whose bit is not set may
+    /// be any number.
+    pub fn take_or<P: RowIndex>(
+        &self,
+        alloc: Global,
+        places: &[P],
+        valid: &BitBuffer,
+    ) -> Result<ByteLists, AllocError>
+        requires same_length { length places.now ≡ length valid.now }
+        requires within { SetPlacesBelow (length self.now) (map P.place places.now) valid.now }
+        ensures ok { IfOk result (λ taken. taken ≡ taken_or [] self.now (map P.place places.now) valid.now) }
+    {
+        let mut taken = ByteLists::new(alloc);
+        for i in 0..places.len() {
+            taken.push(list_or_empty(self, places[i], valid.value(i)))?;
+        }
+        Ok(taken)
+    }
+
+    /// The same lists again.
+    pub fn try_clone(&self, alloc: Global) -> Result<ByteLists, AllocError>
+        ensures ok { IfOk result (λ lists. lists ≡ self.now) }
+    {
+        Ok(ByteLists {
+            bytes: Vec::from_slice(alloc, &self.bytes)?,
+            ends: Vec::from_slice(alloc, &self.ends)?,
+        })
+    }
+}
+
+// The list at a place that is valid, else the empty list.
+fn list_or_empty<P: RowIndex>(lists: &ByteLists, place: P, valid: bool) -> &[u8]
+    requires within { valid ≡ true → P.place place < length lists.now }
+    ensures { result.now ≡ cond valid (slice_index_or lists.now (P.place place) []) [] }
+{
+    if valid { lists.get(place.place()) } else { &[] }
+}
+
+// The pieces from `start` up to `end`, with one run of bytes copied.
+fn part_of(
+    alloc: Global,
+    bytes: &[u8],
+    ends: &[usize],
+    start: usize,
+    end: usize,
+) -> Result<ByteLists, AllocError>
+    requires order { start ≤ end }
+    requires within { end ≤ length ends.now }
+    requires chain { IsChain 0 ends.now (length bytes.now) }
+    ensures ok { IfOk result (λ part. part ≡ slice_range (pieces bytes.now 0 ends.now) start end) }
+{
+    let (from, to) = run_of(bytes.len(), ends, start, end);
+    let run = Vec::from_slice(alloc, &bytes[from..to])?;
+    let part = moved(alloc, &ends[start..end], from)?;
+    Ok(ByteLists {
+        bytes: run,
+        ends: part,
+    })
+}
+
+// Where the pieces from `start` up to `end` begin and end.
+fn run_of(len: usize, ends: &[usize], start: usize, end: usize) -> (usize, usize)
+    requires order { start ≤ end }
+    requires inside { end ≤ length ends.now }
+    requires chain { IsChain 0 ends.now len }
+    ensures order { result.0 ≤ result.1 }
+    ensures within { result.1 ≤ len }
+    ensures start { result.0 ≡ start_at 0 ends.now start }
+    ensures end { result.1 ≡ start_at 0 ends.now end }
+{
+    (start_of(ends, start), start_of(ends, end))
+}
+
+// Each end, counted from a place on.
+fn moved(alloc: Global, ends: &[usize], from: usize) -> Result<Vec<usize>, AllocError>
+    requires above { EachIndex ends.now (λ k. from ≤ slice_index ends.now k) }
+    ensures ok { IfOk result (λ v. v.items ≡ map (λ end. end - from) ends.now) }
+{
+    let mut moved = Vec::with_capacity(alloc, ends.len())?;
+    for end in ends {
+        moved.push(*end - from)?;
+    }
+    Ok(moved)
+}
+
+// Puts the ends of a part behind the others, moved from where the part began to where it begins now.
+#[inline(always)]
+fn push_moved(ends: &mut Vec<usize>, part: &[usize], from: usize, to: usize)
+    requires room { vec_len ends.old + length part.now ≤ vec_capacity ends.old }
+    requires above { EachIndex part.now (λ k. from ≤ slice_index part.now k) }
+    requires fits { EachIndex part.now (λ k. to + (slice_index part.now k - from) < 2 ^ 64) }
+    ensures { ends.new.items ≡ ends.old.items ++ map (λ end. to + (end - from)) part.now }
+{
+    for end in part {
+        let _ = ends.push(to + (*end - from));
+    }
+}
+
+// Piece i of the bytes.
+fn piece<'a>(bytes: &'a [u8], ends: &[usize], i: usize) -> &'a [u8]
+    requires inside { i < length ends.now }
+    requires chain { IsChain 0 ends.now (length bytes.now) }
+    ensures { result.now ≡ slice_index_or (pieces bytes.now 0 ends.now) i [] }
+{
+    let (start, end) = bounds_of(bytes.len(), ends, i);
+    &bytes[start..end]
+}
+
+// Where piece i begins and ends.
+fn bounds_of(len: usize, ends: &[usize], i: usize) -> (usize, usize)
+    requires inside { i < length ends.now }
+    requires chain { IsChain 0 ends.now len }
+    ensures order { result.0 ≤ result.1 }
+    ensures within { result.1 ≤ len }
+    ensures start { result.0 ≡ start_at 0 ends.now i }
+    ensures end { result.1 ≡ slice_index ends.now i }
+{
+    (start_of(ends, i), ends[i])
+}
+
+// Where piece i begins; behind the last one, where that ends.
+fn start_of(ends: &[usize], i: usize) -> usize
+    requires { i ≤ length ends.now }
+    ensures { result ≡ start_at 0 ends.now i }
+{
+    if i == 0 { 0 } else { ends[i - 1] }
+}

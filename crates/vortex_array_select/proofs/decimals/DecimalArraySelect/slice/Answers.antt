@@ -1,0 +1,18 @@
+use Rattle.std.proofs.Common.{length}
+use Rattle.vortex_array_kinds.specs.Kinds.{unscaled_of}
+use Rattle.vortex_array_types.specs.declared.types.DType.TheVariants as dtype
+use Rattle.vortex_array_types.specs.declared.scalar.Value.TheVariants as value
+use Rattle.vortex_array_select.proofs.SelectedRows.{covers-fewer, end-within, sliced-column}
+use Rattle.vortex_array_select.proofs.decimals.DecimalArraySelect.slice.Goals as goal
+
+pub slice_validity-requires-clause-within : goal.slice_validity-requires-clause-within
+slice_validity-requires-clause-within c =
+    rw c.validity.ensures.value (covers-fewer c.args.self.now.validity (length (unscaled_of c.args.self.now.values)) c.args.end c.validity.ensures.fits (end-within (λ n. value.Decimal n) c.args.self.now.validity (unscaled_of c.args.self.now.values) c.args.end c.validity.ensures.fits c.requires.within))
+
+pub slice_unscaled-requires-clause-within : goal.slice_unscaled-requires-clause-within
+slice_unscaled-requires-clause-within c = rw c.values.ensures (end-within (λ n. value.Decimal n) c.args.self.now.validity (unscaled_of c.args.self.now.values) c.args.end c.validity.ensures.fits c.requires.within)
+
+pub returns : goal.returns
+returns c =
+    rw (c.in-Ok.ensures.ok, c.in_ok-validity.ensures, c.in_ok-values.ensures, c.decimal_dtype.ensures, c.validity.ensures.value, c.values.ensures)
+    (sliced-column (λ n. dtype.Decimal c.args.self.now.digits n) (λ n. value.Decimal n) c.args.self.now.validity (unscaled_of c.args.self.now.values) c.args.start c.args.end)

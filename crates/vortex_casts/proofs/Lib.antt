@@ -1,6 +1,0 @@
-pub mod Converted
-pub mod CastRows
-pub mod CastPlain
-pub mod CastNumbers
-pub mod CastTexts
-pub mod FilledRows

@@ -1,6 +1,0 @@
-use Rattle.std.proofs.Common.{sym}
-use Rattle.vortex_casts.proofs.FilledRows.{length-under}
-use Rattle.vortex_casts.proofs.fill.FilledItemsIndexedSource.len.Goals as goal
-
-pub returns : goal.returns
-returns g c = let s = c.args.self.now in sym (length-under s.fill s.items.now s.bits.now s.long)

@@ -1,5 +1,0 @@
-use Rattle.vortex_columns.proofs.TruthLaws.{negated-by-row}
-use Rattle.vortex_columns.proofs.laws.negated_by_row.Goals as goal
-
-pub returns : goal.returns
-returns c = negated-by-row

@@ -1,5 +1,0 @@
-use Rattle.vortex_extremes.proofs.NullRows.{nulls-constant}
-use Rattle.vortex_extremes.proofs.order.are_constant.Goals as goal
-
-pub returns-then-nulls-gt0 : goal.returns-then-nulls-gt0
-returns-then-nulls-gt0 g c = nulls-constant (g.R.OrderedRows.rows c.args.rows.now) c.args.nulls c.count.result c.requires c.if-nulls-gt0.true c.count.ensures

@@ -1,5 +1,0 @@
-use Rattle.vortex_extremes.specs.Extremes.{ExtremesOf}
-use Rattle.vortex_extremes.proofs.places.places_behind.Given as goal
-
-abbrev pub invariant-loop-i : goal.invariant-loop-i
-invariant-loop-i g l = ExtremesOf (g.R.OrderedRows.rows l.rows) l.i l.found.least l.found.greatest

@@ -1,5 +1,0 @@
-use Rattle.std.proofs.Common.{ℕ, ◌<◌, ◌≡◌, true, false, map, get_or}
-use Rattle.vortex_rows.proofs.places.set_places_below.Given as goal
-
-abbrev pub invariant-loop-i : goal.invariant-loop-i
-invariant-loop-i g l = (k : ℕ) → k < l.i → get_or l.valid k false ≡ true → get_or (map g.P.Place.place l.places) k 0 < l.bound

@@ -288,6 +288,14 @@ def add_casts(cases):
         for mark in MARKS:
             cases.add("cast", "%s%s:1,2,3@65" % (source, mark), "i64?")
             cases.add("cast", "%s%s:1,2,3@130" % (source, mark), "u8")
+    # Numbers are cast by blocks of 512 rows.
+    for count in [511, 512, 513, 1024, 1025]:
+        front = ["1"] * (count - 1)
+        for last in ["1", "300", "~300"]:
+            for target in ["u8", "u8?"]:
+                cases.add("cast", "i32?:" + ",".join(front + [last]), target)
+        cases.add("cast", "i32:" + ",".join(front + ["300"]), "u8")
+        cases.add("cast", "i32?:" + ",".join(["~300"] + front), "u8?")
     targets = turning(TYPES)
     for source in KINDS:
         for target in TYPES:

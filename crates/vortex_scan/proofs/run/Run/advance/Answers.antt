@@ -1,0 +1,89 @@
+use Rattle.std.proofs.Common.{◌≡◌, ◌∙◌, refl, inr, ap, Ok}
+use Rattle.vortex_scan.specs.declared.errors.Progress.TheVariants.{Idle}
+use Rattle.vortex_scan.specs.Going.{state_with}
+use Rattle.vortex_scan.specs.RunState.{live_with}
+use Rattle.vortex_scan.proofs.Faulting.{advance_cause}
+use Rattle.vortex_scan.proofs.Idling.{fails_with_items, idle_exactly}
+use Rattle.vortex_scan.proofs.Kept.{each_long, each_same}
+use Rattle.vortex_scan.proofs.Paying.{advances_enough, enough_same, fails_enough}
+use Rattle.vortex_scan.proofs.Quieting.{at_rest}
+use Rattle.vortex_scan.proofs.Rooted.{advances_peopled, advances_tell}
+use Rattle.vortex_scan.proofs.Turning.{waiting_asks, waiting_of}
+use Rattle.vortex_scan.proofs.run.Run.advance.Goals as goal
+
+pub returns-then-self-clause-sources : goal.returns-then-self-clause-sources
+returns-then-self-clause-sources g c = each_same g.S.IoSource _
+
+pub returns-then-self-clause-asking : goal.returns-then-self-clause-asking
+returns-then-self-clause-asking g c =
+    rw (← c.self.view_is) (enough_same g.S.IoSource (state_with c.self.inside.items.items c.self.inside.slots.items c.self.inside.next_owner c.self.inside.counts c.self.inside.next_root))
+
+pub returns-then-self-clause-idle : goal.returns-then-self-clause-idle
+returns-then-self-clause-idle g c = rw (← c.self.view_is) (λ e. absurd (cc), λ b. absurd (let t = c.if-self.true in let f = b.0 in cc))
+
+pub returns-then-self-clause-cause : goal.returns-then-self-clause-cause
+returns-then-self-clause-cause g c = λ root e. absurd (cc)
+
+pub go_on-requires : goal.go_on-requires
+go_on-requires g c = (c.self.invariant.fits c.if-self.false).live
+
+pub invariant_of-self : goal.invariant_of-self
+invariant_of-self g c =
+    let inv = c.self.invariant in
+    let long = each_long g.S.IoSource c.self.inside.slots.items c.go_on.new.slots.items c.go_on.ensures.sources in
+    record {
+      none = inv.none;
+      enough = rw long inv.enough;
+      fits = λ well.
+          let f = inv.fits well in
+          record {
+            roots = long ∙ f.roots;
+            live = c.in-Ok.ensures.fits;
+            peopled = advances_peopled _ g.S.IoSource _ (state_with c.self.inside.items.items c.self.inside.slots.items c.self.inside.next_owner c.self.inside.counts c.self.inside.next_root)
+                (state_with c.go_on.new.items.items c.go_on.new.slots.items c.go_on.new.next_owner c.go_on.new.counts c.self.inside.next_root) c.in-Ok.answer f.live (c.in-Ok.ensures.ok c.self.inside.next_root) f.peopled;
+            since = c.in-Ok.ensures.since;
+          };
+    }
+
+pub invariant_of-self-in-Err : goal.invariant_of-self-in-Err
+invariant_of-self-in-Err g c =
+    let inv = c.self.invariant in
+    let long = each_long g.S.IoSource c.self.inside.slots.items c.go_on.new.slots.items c.go_on.ensures.sources in
+    record { none = inv.none; enough = rw long inv.enough; fits = λ well. absurd (cc) }
+
+pub returns-in-Ok-clause-ok : goal.returns-in-Ok-clause-ok
+returns-in-Ok-clause-ok g c = rw (← c.self.view_is, c.if-self.false) (refl, c.in-Ok.ensures.ok c.self.inside.next_root)
+
+pub returns-in-Ok-clause-waiting : goal.returns-in-Ok-clause-waiting
+returns-in-Ok-clause-waiting g c = λ e.
+    let w = waiting_of _ g.S.IoSource _ _ _ c.in-Ok.answer (c.in-Ok.ensures.ok c.self.inside.next_root) e in
+    (c.if-self.false, waiting_asks g.S.IoSource (live_with c.go_on.new.items.items c.go_on.new.slots.items c.go_on.new.next_owner) c.in-Ok.ensures.fits w.0 w.1)
+
+pub returns-in-Ok-clause-rests : goal.returns-in-Ok-clause-rests
+returns-in-Ok-clause-rests g c = rw (← c.self.view_is) (λ e. at_rest _ g.S.IoSource _ _ _ c.in-Ok.answer c.in-Ok.ensures.fits (c.in-Ok.ensures.ok c.self.inside.next_root) e)
+
+pub returns-in-Ok-clause-idle : goal.returns-in-Ok-clause-idle
+returns-in-Ok-clause-idle g c =
+    let f = c.self.invariant.fits c.if-self.false in
+    let i = idle_exactly _ g.S.IoSource _ _ _ c.in-Ok.answer f.live (c.in-Ok.ensures.ok c.self.inside.next_root) in
+    rw (← c.self.view_is) (λ e. (c.if-self.false, i.0 (let same : c.in-Ok.answer ≡ Idle = cc in same)), λ b. ap (λ answer. Ok answer) (i.1 b.1))
+
+pub returns-in-Ok-clause-roots : goal.returns-in-Ok-clause-roots
+returns-in-Ok-clause-roots g c = rw (← c.self.view_is) (advances_tell _ g.S.IoSource _ _ _ c.in-Ok.answer (c.self.invariant.fits c.if-self.false).live (c.in-Ok.ensures.ok c.self.inside.next_root))
+
+pub returns-in-Ok-clause-asking : goal.returns-in-Ok-clause-asking
+returns-in-Ok-clause-asking g c = rw (← c.self.view_is) (advances_enough _ g.S.IoSource _ _ _ c.in-Ok.answer (c.self.invariant.fits c.if-self.false).since (c.in-Ok.ensures.ok c.self.inside.next_root))
+
+pub returns-in-Err-clause-err : goal.returns-in-Err-clause-err
+returns-in-Err-clause-err g c = rw (← c.self.view_is, c.if-self.false) (inr (refl, refl, c.in-Err.ensures.err c.self.inside.next_root))
+
+pub returns-in-Err-clause-idle : goal.returns-in-Err-clause-idle
+returns-in-Err-clause-idle g c =
+    let f = c.self.invariant.fits c.if-self.false in
+    rw (← c.self.view_is) (λ e. absurd (cc), λ b. absurd (fails_with_items _ g.S.IoSource _ _ _ c.in-Err.error f.live f.peopled (c.in-Err.ensures.err c.self.inside.next_root) b.1))
+
+pub returns-in-Err-clause-asking : goal.returns-in-Err-clause-asking
+returns-in-Err-clause-asking g c = rw (← c.self.view_is) (fails_enough _ g.S.IoSource _ _ _ c.in-Err.error (c.self.invariant.fits c.if-self.false).since (c.in-Err.ensures.err c.self.inside.next_root))
+
+pub returns-in-Err-clause-cause : goal.returns-in-Err-clause-cause
+returns-in-Err-clause-cause g c = rw (← c.self.view_is) (advance_cause _ g.S.IoSource _ _ _ c.in-Err.error (c.self.invariant.fits c.if-self.false).live (c.in-Err.ensures.err c.self.inside.next_root))

@@ -1,0 +1,70 @@
+use Rattle.std.proofs.Common.{◌≢◌, ◌∙◌, refl, inr, length, ap}
+use Rattle.vortex_scan.specs.RunState.{live_count, live_with}
+use Rattle.vortex_scan.proofs.Asked.{asks_once_fits}
+use Rattle.vortex_scan.proofs.Faulting.{asking_cause}
+use Rattle.vortex_scan.proofs.Kept.{each_long, each_same}
+use Rattle.vortex_scan.proofs.Polling.{once_are_quiet, once_fewer, once_items}
+use Rattle.vortex_scan.proofs.Rooted.{asks_once_same, peopled_same}
+use Rattle.vortex_scan.proofs.run.Run.poll_completion.Goals as goal
+
+pub returns-then-self-clause-sources : goal.returns-then-self-clause-sources
+returns-then-self-clause-sources g c = each_same g.S.IoSource _
+
+pub returns-then-count_live-eq0-clause-sources : goal.returns-then-count_live-eq0-clause-sources
+returns-then-count_live-eq0-clause-sources g c = each_same g.S.IoSource _
+
+pub invariant_of-self : goal.invariant_of-self
+invariant_of-self g c =
+    let inv = c.self.invariant in
+    let long = each_long g.S.IoSource c.self.inside.slots.items c.ask_once.new.slots.items c.ask_once.ensures.sources in
+    record {
+      none = inv.none;
+      enough = rw long inv.enough;
+      fits = λ well.
+          let f = inv.fits well in
+          record {
+            roots = long ∙ f.roots;
+            live = asks_once_fits _ g.S.IoSource _ (length c.self.inside.slots.items) (live_with c.self.inside.items.items c.self.inside.slots.items c.self.inside.next_owner) (live_with c.ask_once.new.items.items c.ask_once.new.slots.items c.self.inside.next_owner) c.in-Ok.came f.live (c.in-Ok.ensures.ok c.self.inside.next_owner);
+            peopled = peopled_same (live_with c.self.inside.items.items c.self.inside.slots.items c.self.inside.next_owner) (live_with c.ask_once.new.items.items c.ask_once.new.slots.items c.self.inside.next_owner)
+                (asks_once_same _ g.S.IoSource _ (length c.self.inside.slots.items) (live_with c.self.inside.items.items c.self.inside.slots.items c.self.inside.next_owner) (live_with c.ask_once.new.items.items c.ask_once.new.slots.items c.self.inside.next_owner) c.in-Ok.came (c.in-Ok.ensures.ok c.self.inside.next_owner)) f.peopled;
+            since = f.since;
+          };
+    }
+
+pub invariant_of-self-in-Err : goal.invariant_of-self-in-Err
+invariant_of-self-in-Err g c =
+    let inv = c.self.invariant in
+    let long = each_long g.S.IoSource c.self.inside.slots.items c.ask_once.new.slots.items c.ask_once.ensures.sources in
+    record { none = inv.none; enough = rw long inv.enough; fits = λ well. absurd (cc) }
+
+pub returns-in-Ok-clause-ok : goal.returns-in-Ok-clause-ok
+returns-in-Ok-clause-ok g c =
+    let some : live_count c.self.inside.slots.items ≢ 0 = λ e. c.if-count_live-eq0.false (c.count_live.ensures ∙ ap live_count c.deref.ensures.value ∙ e) in
+    rw (← c.self.view_is) (c.if-self.false, some, c.in-Ok.ensures.ok c.self.inside.next_owner, refl)
+
+pub returns-in-Err-clause-err : goal.returns-in-Err-clause-err
+returns-in-Err-clause-err g c =
+    let some : live_count c.self.inside.slots.items ≢ 0 = λ e. c.if-count_live-eq0.false (c.count_live.ensures ∙ ap live_count c.deref.ensures.value ∙ e) in
+    rw (← c.self.view_is) (inr (inr (c.if-self.false, refl, (some, c.in-Err.ensures.err c.self.inside.next_owner))))
+
+pub returns-then-self-clause-cause : goal.returns-then-self-clause-cause
+returns-then-self-clause-cause g c = λ root e. absurd (cc)
+
+pub returns-then-count_live-eq0-clause-cause : goal.returns-then-count_live-eq0-clause-cause
+returns-then-count_live-eq0-clause-cause g c = λ root e. absurd (cc)
+
+pub returns-in-Ok-clause-quiet : goal.returns-in-Ok-clause-quiet
+returns-in-Ok-clause-quiet g c =
+    rw (← c.self.view_is) (λ none. (
+      once_are_quiet _ g.S.IoSource _ (live_with c.self.inside.items.items c.self.inside.slots.items c.self.inside.next_owner) (live_with c.ask_once.new.items.items c.ask_once.new.slots.items c.self.inside.next_owner) c.in-Ok.came (c.in-Ok.ensures.ok c.self.inside.next_owner) none,
+      once_items _ g.S.IoSource _ (length c.self.inside.slots.items) (live_with c.self.inside.items.items c.self.inside.slots.items c.self.inside.next_owner) (live_with c.ask_once.new.items.items c.ask_once.new.slots.items c.self.inside.next_owner) c.in-Ok.came (c.in-Ok.ensures.ok c.self.inside.next_owner) none,
+    ))
+
+pub returns-in-Ok-clause-fewer : goal.returns-in-Ok-clause-fewer
+returns-in-Ok-clause-fewer g c = rw (← c.self.view_is) (λ some. once_fewer _ g.S.IoSource _ (length c.self.inside.slots.items) (live_with c.self.inside.items.items c.self.inside.slots.items c.self.inside.next_owner) (live_with c.ask_once.new.items.items c.ask_once.new.slots.items c.self.inside.next_owner) c.in-Ok.came (c.in-Ok.ensures.ok c.self.inside.next_owner) some)
+
+pub returns-in-Ok-clause-roots : goal.returns-in-Ok-clause-roots
+returns-in-Ok-clause-roots g c = rw (← c.self.view_is) ((asks_once_same _ g.S.IoSource _ (length c.self.inside.slots.items) (live_with c.self.inside.items.items c.self.inside.slots.items c.self.inside.next_owner) (live_with c.ask_once.new.items.items c.ask_once.new.slots.items c.self.inside.next_owner) c.in-Ok.came (c.in-Ok.ensures.ok c.self.inside.next_owner)).0)
+
+pub returns-in-Err-clause-cause : goal.returns-in-Err-clause-cause
+returns-in-Err-clause-cause g c = rw (← c.self.view_is) (asking_cause _ g.S.IoSource _ (live_with c.self.inside.items.items c.self.inside.slots.items c.self.inside.next_owner) (live_with c.ask_once.new.items.items c.ask_once.new.slots.items c.self.inside.next_owner) c.in-Err.error (c.in-Err.ensures.err c.self.inside.next_owner))

@@ -1,0 +1,75 @@
+use Rattle.std.proofs.Common.{◌≡◌, ◌∙◌, refl, Some, slice_get}
+use Rattle.std.proofs.lemmas.Option.{slice_get_within}
+use Rattle.vortex_scan.specs.RunState.{live_with}
+use Rattle.vortex_scan.proofs.Asked.{asking_live, some_outstanding, waits_fits}
+use Rattle.vortex_scan.proofs.Faulting.{wait_cause}
+use Rattle.vortex_scan.proofs.Kept.{each_long}
+use Rattle.vortex_scan.proofs.Rooted.{peopled_same, waits_same}
+use Rattle.vortex_scan.proofs.run.Run.wait_any.Goals as goal
+
+pub unreachable-requires : goal.unreachable-requires
+unreachable-requires g c =
+    let a = rw (← c.self.view_is) at c.requires.asking in
+    c.in_default.ensures a.0 (rw c.deref.ensures.value a.1)
+
+pub wait_for-requires-clause-in_range : goal.wait_for-requires-clause-in_range
+wait_for-requires-clause-in_range g c =
+    let first = rw c.deref.ensures.value at c.in-Some.ensures in
+    let fits = (c.self.invariant.fits (rw (← c.self.view_is) at c.requires.well)).live in
+    let l = asking_live g.S.IoSource (live_with c.self.inside.items.items c.self.inside.slots.items c.self.inside.next_owner) c.in-Some.root.0 fits first.asking in
+    slice_get_within c.self.inside.slots.items c.in-Some.root.0 l.0 l.1
+
+pub wait_for-requires-clause-live : goal.wait_for-requires-clause-live
+wait_for-requires-clause-live g c = λ slot at.
+    let first = rw c.deref.ensures.value at c.in-Some.ensures in
+    let fits = (c.self.invariant.fits (rw (← c.self.view_is) at c.requires.well)).live in
+    let l = asking_live g.S.IoSource (live_with c.self.inside.items.items c.self.inside.slots.items c.self.inside.next_owner) c.in-Some.root.0 fits first.asking in
+    let got : slice_get c.self.inside.slots.items c.in-Some.root.0 ≡ Some l.0 = l.1 in
+    let same : l.0 ≡ slot = cc in
+    rw same at l.2
+
+pub wait_for-requires-clause-outstanding : goal.wait_for-requires-clause-outstanding
+wait_for-requires-clause-outstanding g c = λ slot at.
+    let first = rw c.deref.ensures.value at c.in-Some.ensures in
+    let fits = (c.self.invariant.fits (rw (← c.self.view_is) at c.requires.well)).live in
+    some_outstanding g.S.IoSource (live_with c.self.inside.items.items c.self.inside.slots.items c.self.inside.next_owner) c.in-Some.root.0 slot fits first.asking at
+
+pub invariant_of-self : goal.invariant_of-self
+invariant_of-self g c =
+    let inv = c.self.invariant in
+    let long = each_long g.S.IoSource c.self.inside.slots.items c.wait_for.new.slots.items c.wait_for.ensures.sources in
+    record {
+      none = inv.none;
+      enough = rw long inv.enough;
+      fits = λ well.
+          let f = inv.fits well in
+          record {
+            roots = long ∙ f.roots;
+            live = waits_fits _ g.S.IoSource _ c.in-Some.root (live_with c.self.inside.items.items c.self.inside.slots.items c.self.inside.next_owner) (live_with c.wait_for.new.items.items c.wait_for.new.slots.items c.self.inside.next_owner) f.live (c.in-Ok.ensures.ok c.self.inside.next_owner);
+            peopled = peopled_same (live_with c.self.inside.items.items c.self.inside.slots.items c.self.inside.next_owner) (live_with c.wait_for.new.items.items c.wait_for.new.slots.items c.self.inside.next_owner)
+                (waits_same _ g.S.IoSource _ c.in-Some.root (live_with c.self.inside.items.items c.self.inside.slots.items c.self.inside.next_owner) (live_with c.wait_for.new.items.items c.wait_for.new.slots.items c.self.inside.next_owner) (c.in-Ok.ensures.ok c.self.inside.next_owner)) f.peopled;
+            since = f.since;
+          };
+    }
+
+pub invariant_of-self-in-Err : goal.invariant_of-self-in-Err
+invariant_of-self-in-Err g c =
+    let inv = c.self.invariant in
+    let long = each_long g.S.IoSource c.self.inside.slots.items c.wait_for.new.slots.items c.wait_for.ensures.sources in
+    record { none = inv.none; enough = rw long inv.enough; fits = λ well. absurd (cc) }
+
+pub returns-in-Ok-clause-ok : goal.returns-in-Ok-clause-ok
+returns-in-Ok-clause-ok g c =
+    let first = rw c.deref.ensures.value at c.in-Some.ensures in
+    rw (← c.self.view_is) (c.in-Some.root.0, first, c.in-Ok.ensures.ok c.self.inside.next_owner, refl)
+
+pub returns-in-Err-clause-err : goal.returns-in-Err-clause-err
+returns-in-Err-clause-err g c =
+    let first = rw c.deref.ensures.value at c.in-Some.ensures in
+    rw (← c.self.view_is) (c.in-Some.root.0, first, c.in-Err.ensures.err c.self.inside.next_owner, refl)
+
+pub returns-in-Ok-clause-roots : goal.returns-in-Ok-clause-roots
+returns-in-Ok-clause-roots g c = rw (← c.self.view_is) ((waits_same _ g.S.IoSource _ c.in-Some.root (live_with c.self.inside.items.items c.self.inside.slots.items c.self.inside.next_owner) (live_with c.wait_for.new.items.items c.wait_for.new.slots.items c.self.inside.next_owner) (c.in-Ok.ensures.ok c.self.inside.next_owner)).0)
+
+pub returns-in-Err-clause-cause : goal.returns-in-Err-clause-cause
+returns-in-Err-clause-cause g c = rw (← c.self.view_is) (wait_cause _ g.S.IoSource _ c.in-Some.root (live_with c.self.inside.items.items c.self.inside.slots.items c.self.inside.next_owner) (live_with c.wait_for.new.items.items c.wait_for.new.slots.items c.self.inside.next_owner) c.in-Err.error (c.in-Err.ensures.err c.self.inside.next_owner))

@@ -1,0 +1,17 @@
+pub mod Numbers
+pub mod Orderly
+pub mod Owed
+pub mod Plans
+pub mod Works
+pub mod RunState
+pub mod Sources
+pub mod Keys
+pub mod Steps
+pub mod Fits
+pub mod Fails
+pub mod Asking
+pub mod Calls
+pub mod Visits
+pub mod Going
+pub mod Fetching
+pub mod Whole

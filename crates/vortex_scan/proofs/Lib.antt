@@ -21,3 +21,8 @@ pub mod Quieting
 pub mod Polling
 pub mod Paying
 pub mod Faulting
+pub mod Tallies
+pub mod Stepping
+pub mod Delivered
+pub mod Joining
+pub mod Expecting

@@ -85,10 +85,10 @@ any_removed p [] i x there = absurd (cc)
 any_removed p (y ∷ ys) zero x there = let same : y ≡ x = cc in ap (λ z. p z || list_any p ys) same
 any_removed p (y ∷ ys) (suc i) x there = ap (λ b. p y || b) (any_removed p ys i x there) ∙ or_swap (p y) (p x) (list_any p (remove ys i))
 
-eqb_same : (n : ℕ) → eqb n n ≡ true
+pub eqb_same : (n : ℕ) → eqb n n ≡ true
 eqb_same n = grind (arith, nat_tests)
 
-same_root : (a b : RootId) → eqb a.0 b.0 ≡ true → a ≡ b
+pub same_root : (a b : RootId) → eqb a.0 b.0 ≡ true → a ≡ b
 same_root a b e = let same : a.0 ≡ b.0 = eqb-true _ _ e in λ i. record { 0 = same i }
 
 module _ {W : Type 0} where

@@ -81,7 +81,7 @@ module _ {W S C : Type 0} (source : Ghosts S C) where
       rw r.now (left_fits (has_root item.root (remove old.items at)) old.items old.slots old.next_owner at item r.slot r.released r.after fits there r.there r.releases.accounts refl r.clears)
 
   -- one item changes, and no source
-  item_set : (old : Live W S) (at : ℕ) (item now : Item W) → LiveFits source old → slice_get old.items at ≡ Some item → now.owner ≡ item.owner → ItemFits source old.slots old.next_owner now → LiveFits source (put at now old)
+  pub item_set : (old : Live W S) (at : ℕ) (item now : Item W) → LiveFits source old → slice_get old.items at ≡ Some item → now.owner ≡ item.owner → ItemFits source old.slots old.next_owner now → LiveFits source (put at now old)
   item_set old at item now fits there same one = fits_set source old.items old.slots old.slots old.next_owner old.next_owner at item now fits there (λ other ne f. f) same one
 
   pub settle_fits : (shown : State) (at : ℕ) (item : Item W) (old new : Live W S) (answer : Visited) → LiveFits source old → slice_get old.items at ≡ Some item → Settles source shown at item old new answer → LiveFits source new

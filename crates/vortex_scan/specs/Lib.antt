@@ -15,3 +15,4 @@ pub mod Visits
 pub mod Going
 pub mod Fetching
 pub mod Whole
+pub mod InStep

@@ -1,5 +1,6 @@
 // How a root joins.
 ghost use Rattle.std.specs.Prelude.{◌≡◌, ◌≢◌, ◌↔◌, ◌⊎◌, ℕ, ◌+◌, ◌-◌, ◌^◌, ◌≤◌, ◌++◌, ◌∷◌, [], true, false, length, Some, IfOk, MatchResult, vec_len, vec_capacity};
+ghost use Rattle.vortex_scan.specs.Calls.{IsRefusedFor};
 ghost use Rattle.vortex_scan.specs.Steps.{root_item};
 ghost use Rattle.vortex_scan.specs.declared.worker.Work.{Work};
 
@@ -12,8 +13,8 @@ use crate::worker::Work;
 use std::alloc::{AllocError, Global};
 use vortex_io::IoOwnerId;
 
-/// Why no root may join, if so: the run has failed, or no number is left.
-pub fn refusal(failed: bool, next_root: u64, next_owner: u64) -> Option<AdmitError>
+// Why no root may join, if so: the run has failed, or no number is left.
+fn refusal(failed: bool, next_root: u64, next_owner: u64) -> Option<AdmitError>
     ensures run_failed { result ≡ Some AdmitError.RunFailed ↔ (failed ≡ true) }
     ensures ids_exhausted { result ≡ Some AdmitError.IdsExhausted ↔ ((failed ≡ false) × ((next_root ≡ 2 ^ 64 - 1) ⊎ (next_owner ≡ 2 ^ 64 - 1))) }
     ensures memory { result ≢ Some AdmitError.OutOfMemory }
@@ -44,8 +45,8 @@ fn make_room<P: Drop, M: Drop, S: Drop>(
     room.reserve(needed)
 }
 
-/// The item of a root and its source join, or both come back.
-pub fn join<P: Drop, M: Drop, S: Drop>(
+// The item of a root and its source join, or both come back.
+fn join<P: Drop, M: Drop, S: Drop>(
     alloc: Global,
     items: &mut Vec<Item<Work<P, M>>>,
     slots: &mut Vec<Slot<S>>,
@@ -90,4 +91,47 @@ pub fn join<P: Drop, M: Drop, S: Drop>(
     });
     slots.push_reserved(Slot { source, live: true });
     Ok(())
+}
+
+/// A root joins under the next numbers, or comes back with its source and the reason.
+pub fn admit_root<P: Drop, M: Drop, S: Drop>(
+    alloc: Global,
+    failed: bool,
+    items: &mut Vec<Item<Work<P, M>>>,
+    slots: &mut Vec<Slot<S>>,
+    room: &mut Vec<S>,
+    next_root: u64,
+    next_owner: u64,
+    planner: P,
+    scope: WorkScope,
+    source: S,
+) -> Result<(), Refused<P, S>>
+    requires { room.old.items ≡ [] }
+    ensures room { room.new.items ≡ [] }
+    ensures less { vec_capacity room.old ≤ vec_capacity room.new }
+    ensures ok { MatchResult result
+        (λ _. (slots.new.items ≡ slots.old.items ++ record { source = source; live = true } ∷ [])
+        × (items.new.items ≡ items.old.items ++ root_item next_root next_owner scope (Work.Planner planner) ∷ []) × (length slots.old.items + 1 ≤ vec_capacity room.new))
+        (λ refused. (slots.new.items ≡ slots.old.items) × (items.new.items ≡ items.old.items) × (refused.planner ≡ planner) × (refused.source ≡ source)) }
+    ensures run_failed { IsRefusedFor AdmitError.RunFailed result ↔ (failed ≡ true) }
+    ensures ids_exhausted { IsRefusedFor AdmitError.IdsExhausted result ↔ ((failed ≡ false) × ((next_root ≡ 2 ^ 64 - 1) ⊎ (next_owner ≡ 2 ^ 64 - 1))) }
+{
+    if let Some(error) = refusal(failed, next_root, next_owner) {
+        return Err(Refused {
+            planner,
+            source,
+            error,
+        });
+    }
+    join(
+        alloc,
+        items,
+        slots,
+        room,
+        RootId(next_root),
+        IoOwnerId(next_owner),
+        planner,
+        scope,
+        source,
+    )
 }

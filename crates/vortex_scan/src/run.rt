@@ -5,13 +5,14 @@ ghost use Rattle.vortex_scan.specs.Steps.{CancelsLive, Delivers, WaitsFor, admit
 ghost use Rattle.vortex_scan.specs.Fails.{DeliverFails, WaitFails};
 ghost use Rattle.vortex_scan.specs.Asking.{AskingFails, AsksOnce, IsAsking, IsFirstAsking, root_at};
 ghost use Rattle.vortex_scan.specs.Going.{Advances};
+ghost use Rattle.vortex_scan.specs.InStep.{LiesByCause, StaysInStep};
 ghost use Rattle.vortex_scan.specs.Sources.{ClearsEach, KeepsEach};
 ghost use Rattle.vortex_scan.specs.Visits.{asked_count};
 ghost use Rattle.vortex_scan.specs.Whole.{AreQuiet, AsksEnough, FailsByCause, IsAtRest, TellsRoots};
 ghost use Rattle.vortex_scan.specs.Calls.{AdvanceRefuses, IsRefusedFor, PollRefuses, Refuses};
 ghost use Rattle.vortex_scan.specs.declared.worker.Work.{Work};
 
-use crate::admit::{join, refusal};
+use crate::admit::admit_root;
 use crate::ask::{ask_once, first_asking, wait_for};
 use crate::batch::WorkScope;
 use crate::counting::count_live;
@@ -114,29 +115,24 @@ impl<P: Planner, S: IoSource<Payload = P::Payload>> Run<P, S> {
         requires idle { S.outstanding io ≡ [] }
         ensures ok { IfOk result (λ id. (id.0 ≡ self.old.next_root) × (self.new ≡ admitted self.old (Work.Planner root) scope io)) }
         ensures err { IfErr result (λ refused. (self.new ≡ self.old) × (refused.planner ≡ root) × (refused.source ≡ io)) }
+        ensures in_step { IfOk result (λ _. StaysInStep S.IoSource self.old.live self.new.live) }
         ensures run_failed { IsRefusedFor AdmitError.RunFailed result ↔ (self.old.failed ≡ true) }
         ensures ids_exhausted { IsRefusedFor AdmitError.IdsExhausted result ↔ ((self.old.failed ≡ false) × ((self.old.next_root ≡ 2 ^ 64 - 1) ⊎ (self.old.live.next_owner ≡ 2 ^ 64 - 1))) }
     {
-        if let Some(error) = refusal(self.failed, self.next_root, self.next_owner) {
-            return Err(Refused {
-                planner: root,
-                source: io,
-                error,
-            });
-        }
-        let id = RootId(self.next_root);
-        match join(
+        match admit_root(
             self.alloc,
+            self.failed,
             &mut self.items,
             &mut self.slots,
             &mut self.room,
-            id,
-            IoOwnerId(self.next_owner),
+            self.next_root,
+            self.next_owner,
             root,
             scope,
             io,
         ) {
             Ok(()) => {
+                let id = RootId(self.next_root);
                 self.next_root += 1;
                 self.next_owner += 1;
                 Ok(id)
@@ -149,6 +145,7 @@ impl<P: Planner, S: IoSource<Payload = P::Payload>> Run<P, S> {
     pub fn cancel(&mut self, root: RootId)
         ensures step { CancelsLive S.IoSource root (slice_get self.old.live.slots root.0) self.old.live self.new.live }
         ensures kept { self.new ≡ record self.old { live = self.new.live } }
+        ensures in_step { StaysInStep S.IoSource self.old.live self.new.live }
     {
         forget(&mut self.items, &mut self.slots, root);
     }
@@ -200,6 +197,8 @@ impl<P: Planner, S: IoSource<Payload = P::Payload>> Run<P, S> {
         ensures quiet { IfOk result (λ came. came ≡ false → AreQuiet S.IoSource self.old.live.slots self.new.live.slots × (self.new.live.items ≡ self.old.live.items)) }
         ensures fewer { IfOk result (λ came. came ≡ true → asked_count self.new.live.items < asked_count self.old.live.items) }
         ensures cause { IfErr result (λ error. FailsByCause S.IoSource error self.old.live.slots self.new.live.slots) }
+        ensures unexpected { IfErr result (λ error. LiesByCause S.IoSource error self.old.live self.new.live.slots) }
+        ensures in_step { IfOk result (λ _. StaysInStep S.IoSource self.old.live self.new.live) }
         ensures roots { IfOk result (λ _. liveness self.new.live.slots ≡ liveness self.old.live.slots) }
     {
         if self.failed {
@@ -228,6 +227,8 @@ impl<P: Planner, S: IoSource<Payload = P::Payload>> Run<P, S> {
             × WaitFails ⟦<Work<P, P::Morsel> as Worker>⟧ S.IoSource P.Payload.Payload (root_at root) self.old.live self.new.live error × (self.new.failed ≡ true)) }
         ensures sources { KeepsEach S.IoSource self.old.live.slots self.new.live.slots }
         ensures cause { IfErr result (λ error. FailsByCause S.IoSource error self.old.live.slots self.new.live.slots) }
+        ensures unexpected { IfErr result (λ error. LiesByCause S.IoSource error self.old.live self.new.live.slots) }
+        ensures in_step { IfOk result (λ _. StaysInStep S.IoSource self.old.live self.new.live) }
         ensures roots { IfOk result (λ _. liveness self.new.live.slots ≡ liveness self.old.live.slots) }
     {
         let Some(root) = first_asking(&self.items) else {
@@ -254,6 +255,8 @@ impl<P: Planner, S: IoSource<Payload = P::Payload>> Run<P, S> {
         ensures roots { IfOk result (λ answer. TellsRoots answer self.old.live self.new.live) }
         ensures asking { AsksEnough S.IoSource self.old self.new }
         ensures cause { IfErr result (λ error. FailsByCause S.IoSource error self.old.live.slots self.new.live.slots) }
+        ensures unexpected { IfErr result (λ error. LiesByCause S.IoSource error self.old.live self.new.live.slots) }
+        ensures in_step { IfOk result (λ _. StaysInStep S.IoSource self.old.live self.new.live) }
     {
         if self.failed {
             return Err(RunError::RunFailed);

@@ -7,6 +7,7 @@ ghost use Rattle.vortex_scan.specs.Keys.{IsLeastReady};
 ghost use Rattle.vortex_scan.specs.Sources.{KeepsEach};
 ghost use Rattle.vortex_scan.specs.Steps.{VisitsLeast};
 ghost use Rattle.vortex_scan.specs.RunState.{NothingReady, live_with};
+ghost use Rattle.vortex_scan.specs.declared.errors.Visited.{Visited};
 ghost use Rattle.vortex_scan.specs.declared.item.Item.{Item};
 
 use crate::ask::ask_all;
@@ -107,6 +108,31 @@ fn progress_of(visited: Visited) -> Option<Progress>
     }
 }
 
+// Visits the ready item with the least key, which stands at a place. The answer is what the call answers, if it ends here.
+fn visit_and_answer<W: Worker, S: IoSource<Payload = W::Payload>>(
+    alloc: Global,
+    items: &mut Vec<Item<W>>,
+    slots: &mut Vec<Slot<S>>,
+    next_owner: &mut u64,
+    counts: &mut Counts,
+    at: usize,
+) -> Result<Option<Progress>, RunError<W::Error>>
+    requires least { (item : Item W) × IsLeastReady items.old.items at item }
+    requires fits { LiveFits S.IoSource (live_with items.old.items slots.old.items next_owner.old) }
+    requires since { visits_since counts.old.since < 64 }
+    ensures ok { IfOk result (λ answer. (came : Visited) × (answer ≡ came_to came) × ((roots : ℕ) →
+        VisitsLeast W.Worker S.IoSource (state_with items.old.items slots.old.items next_owner.old counts.old roots) (state_with items.new.items slots.new.items next_owner.new counts.new roots) came)) }
+    ensures err { IfErr result (λ error. (roots : ℕ) →
+        VisitingFails W.Worker S.IoSource (state_with items.old.items slots.old.items next_owner.old counts.old roots) (state_with items.new.items slots.new.items next_owner.new counts.new roots) error) }
+    ensures since { visits_since counts.new.since ≤ 64 }
+    ensures sources { KeepsEach S.IoSource slots.old.items slots.new.items }
+{
+    match visit_least(alloc, items, slots, next_owner, counts, at) {
+        Ok(visited) => Ok(progress_of(visited)),
+        Err(error) => Err(error),
+    }
+}
+
 // What a call answers where no item is ready: some wait, or none is live.
 fn rest<W>(items: &[Item<W>]) -> Progress
     ensures waiting { items.now ≢ [] → result ≡ Progress.Waiting }
@@ -142,10 +168,7 @@ fn turn<W: Worker, S: IoSource<Payload = W::Payload>>(
     let Some(at) = least_ready(items) else {
         return Ok(Some(rest(items)))
     };
-    match visit_least(alloc, items, slots, next_owner, counts, at) {
-        Ok(visited) => Ok(progress_of(visited)),
-        Err(error) => Err(error),
-    }
+    visit_and_answer(alloc, items, slots, next_owner, counts, at)
 }
 
 /// Turns until one has an answer. It ends, since each turn without one makes a visit.

@@ -1,9 +1,13 @@
 // The calls besides going on.
-use crate::pieces::{Cell, Kind, Order, planner_of};
-use crate::running::{Runs, admitted, cells, ended, no_rows, one_root, word};
+ghost use Rattle.std.specs.Prelude.{◌≡◌, []};
+
+use crate::pieces::{Cell, Kind, Order, Told, planner_of};
+use crate::running::{Runs, admitted, cells, end_into, ended_as, no_rows, one_root, two_roots, word};
 use std::alloc::{AllocError, Global};
 use std::test::Fail;
-use vortex_io::{Arrive, Completion, IoOwnerId, IoRequestId, IoResult, Order as Arrival};
+use vortex_io::{
+    Arrive, Completion, IoOwnerId, IoRequestId, IoResult, MemorySource, Order as Arrival,
+};
 use vortex_scan::{AdmitError, RootId, Run};
 
 const WAITS: Arrive = Arrive::OnWait(Arrival::First);
@@ -15,84 +19,95 @@ fn taken(run: &mut Runs) -> usize {
     run.take_sources().len()
 }
 
-// Why a root is refused once the sources were taken, and whether its planner and its source come back.
-fn refused_late(alloc: Global) -> Result<(AdmitError, usize), AllocError> {
-    let mut run = one_root(alloc, &[Order::Morsel(Kind::Gives(1))], POLLS, &[])?;
-    let _ = taken(&mut run);
+// Whether a run refuses a root since it failed, and gives back its source, whose second split has the number 5.
+fn refuses(run: &mut Runs, root: Told, source: MemorySource<Cell>) -> bool
+    requires { source.outstanding ≡ [] }
+{
+    match run.admit(root, no_rows(), source) {
+        Ok(_) => false,
+        Err(refused) => {
+            refused.error == AdmitError::RunFailed && refused.source.chunk(1, 0).value == 5
+        }
+    }
+}
+
+// Whether a run whose sources were taken refuses a root.
+fn refuses_late(alloc: Global, run: &mut Runs) -> Result<bool, AllocError> {
+    let _ = taken(run);
     let source = cells(alloc, POLLS, &[4, 5])?;
     let root = planner_of(alloc, &[Order::Continue])?;
-    match run.admit(root, no_rows(), source) {
-        Ok(_) => Ok((AdmitError::OutOfMemory, 0)),
-        Err(refused) => Ok((refused.error, refused.source.chunk(1, 0).value as usize)),
-    }
+    Ok(refuses(run, root, source))
+}
+
+fn refused_late(alloc: Global) -> Result<bool, AllocError> {
+    let mut run = one_root(alloc, &[Order::Morsel(Kind::Gives(1))], POLLS, &[])?;
+    refuses_late(alloc, &mut run)
 }
 
 #[test]
 fn a_root_is_refused_once_sources_were_taken(rt: HostRuntime) -> Result<(), Fail> {
-    assert!(rt; refused_late(rt.alloc())? == (AdmitError::RunFailed, 5));
+    assert!(rt; refused_late(rt.alloc())?);
     Ok(())
+}
+
+// Whether both sources of a run that has failed come back, and none after that.
+fn comes_back(run: &mut Runs) -> bool {
+    taken(run) == 2 && run.live_roots() == 0 && taken(run) == 0
+}
+
+fn come_back(alloc: Global) -> Result<bool, AllocError> {
+    let second = [Order::Morsel(Kind::Fetches(0))];
+    let mut run = two_roots(alloc, &[Order::Fail], &second, WAITS, &[2])?;
+    Ok(ended_as(alloc, &mut run, "planner")? && comes_back(&mut run))
 }
 
 #[test]
 fn sources_come_back_whatever_happened(rt: HostRuntime) -> Result<(), Fail> {
-    let alloc = rt.alloc();
-    let mut run = one_root(alloc, &[Order::Fail], POLLS, &[])?;
-    assert!(rt;
-        admitted(
-            alloc,
-            &mut run,
-            &[Order::Morsel(Kind::Fetches(0))],
-            WAITS,
-            &[2]
-        )?
-    );
-    assert!(rt; ended(alloc, &mut run)?.as_str() == "planner");
-    assert_eq!(rt; taken(&mut run), 2);
-    assert_eq!(rt; run.live_roots(), 0);
-    assert_eq!(rt; taken(&mut run), 0);
+    assert!(rt; come_back(rt.alloc())?);
     Ok(())
+}
+
+// Whether a run says that no root is live.
+fn has_none(run: &mut Runs) -> bool {
+    match run.poll_completion() {
+        Ok(_) => false,
+        Err(error) => word(&error) == "no-live-root",
+    }
+}
+
+fn goes_on(alloc: Global) -> Result<bool, AllocError> {
+    let mut run: Runs = Run::new(alloc);
+    let orders = [Order::Morsel(Kind::Gives(1))];
+    if !has_none(&mut run) || !admitted(alloc, &mut run, &orders, POLLS, &[])? {
+        return Ok(false);
+    }
+    ended_as(alloc, &mut run, "0.0.=1 done0 idle")
 }
 
 #[test]
 fn polling_without_roots_does_not_fail_the_run(rt: HostRuntime) -> Result<(), Fail> {
-    let alloc = rt.alloc();
-    let mut run: Runs = Run::new(alloc);
-    let refused = match run.poll_completion() {
-        Ok(_) => "",
-        Err(error) => word(&error),
-    };
-    assert!(rt; refused == "no-live-root");
-    assert!(rt;
-        admitted(
-            alloc,
-            &mut run,
-            &[Order::Morsel(Kind::Gives(1))],
-            POLLS,
-            &[]
-        )?
-    );
-    assert!(rt; ended(alloc, &mut run)?.as_str() == "0.0.=1 done0 idle");
+    assert!(rt; goes_on(rt.alloc())?);
     Ok(())
+}
+
+// Cancels a root, again, and one that never was. The answer is whether one is live.
+fn cancelled(run: &mut Runs) -> bool {
+    run.cancel(RootId(0));
+    run.cancel(RootId(0));
+    run.cancel(RootId(7));
+    run.live_roots() == 1
+}
+
+fn never_done(alloc: Global) -> Result<bool, AllocError> {
+    let first = [Order::Morsel(Kind::Fetches(0))];
+    let second = [Order::Morsel(Kind::Gives(3))];
+    let mut run = two_roots(alloc, &first, &second, WAITS, &[2])?;
+    Ok(cancelled(&mut run) && ended_as(alloc, &mut run, "1.0.=3 done1 idle")?)
 }
 
 #[test]
 fn a_cancelled_root_is_never_done(rt: HostRuntime) -> Result<(), Fail> {
-    let alloc = rt.alloc();
-    let mut run = one_root(alloc, &[Order::Morsel(Kind::Fetches(0))], WAITS, &[2])?;
-    assert!(rt;
-        admitted(
-            alloc,
-            &mut run,
-            &[Order::Morsel(Kind::Gives(3))],
-            WAITS,
-            &[]
-        )?
-    );
-    run.cancel(RootId(0));
-    run.cancel(RootId(0));
-    run.cancel(RootId(7));
-    assert_eq!(rt; run.live_roots(), 1);
-    assert!(rt; ended(alloc, &mut run)?.as_str() == "1.0.=3 done1 idle");
+    assert!(rt; never_done(rt.alloc())?);
     Ok(())
 }
 
@@ -114,23 +129,39 @@ fn completed(run: &mut Runs, owner: u64, request: u64, number: bool) -> &'static
     }
 }
 
-// What a run, whose one morsel has owner 1 and waits for a fetch of number 0, says to these results, and then gives.
-fn told(alloc: Global, results: &[(u64, u64, bool)]) -> Result<String, AllocError> {
+// Notes what a run says to these results, and then gives.
+fn note_results(
+    alloc: Global,
+    run: &mut Runs,
+    results: &[(u64, u64, bool)],
+    log: &mut String,
+) -> Result<(), AllocError> {
+    for (owner, request, number) in results {
+        log.push_str(completed(run, *owner, *request, *number))?;
+    }
+    end_into(alloc, run, log)
+}
+
+fn says(
+    alloc: Global,
+    run: &mut Runs,
+    results: &[(u64, u64, bool)],
+    expected: &str,
+) -> Result<bool, AllocError> {
+    let mut log = String::new(alloc);
+    note_results(alloc, run, results, &mut log)?;
+    Ok(log.as_str() == expected)
+}
+
+// Whether a run, whose one morsel has owner 1 and waits for a fetch of number 0, says this to these results, and then gives it.
+fn told(alloc: Global, results: &[(u64, u64, bool)], expected: &str) -> Result<bool, AllocError> {
     let mut run = one_root(alloc, &[Order::Morsel(Kind::Fetches(0))], WAITS, &[2])?;
     let _ = run.advance();
-    let mut log = String::new(alloc);
-    for (owner, request, number) in results {
-        log.push_str(completed(&mut run, *owner, *request, *number))?;
-    }
-    let rest = ended(alloc, &mut run)?;
-    log.push_str(rest.as_str())?;
-    Ok(log)
+    says(alloc, &mut run, results, expected)
 }
 
 #[test]
-fn a_completion_is_taken_once_by_its_owner_number_and_kind(
-    rt: HostRuntime,
-) -> Result<(), Fail> {
+fn a_completion_is_taken_once_by_its_owner_number_and_kind(rt: HostRuntime) -> Result<(), Fail> {
     let cases = [
         ((1, 0, false), (9, 9, false), "taken protocolfailed"),
         ((1, 0, false), (1, 0, false), "taken protocolfailed"),
@@ -139,13 +170,13 @@ fn a_completion_is_taken_once_by_its_owner_number_and_kind(
         ((1, 0, true), (1, 0, false), "protocolfailedfailed"),
     ];
     for (first, second, expected) in cases {
-        assert!(rt; told(rt.alloc(), &[first, second])?.as_str() == expected);
+        assert!(rt; told(rt.alloc(), &[first, second], expected)?);
     }
     Ok(())
 }
 
 #[test]
 fn a_completion_by_hand_makes_a_batch(rt: HostRuntime) -> Result<(), Fail> {
-    assert!(rt; told(rt.alloc(), &[(1, 0, false)])?.as_str() == "taken 0.0.=8 done0 idle");
+    assert!(rt; told(rt.alloc(), &[(1, 0, false)], "taken 0.0.=8 done0 idle")?);
     Ok(())
 }

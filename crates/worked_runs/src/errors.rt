@@ -1,24 +1,18 @@
 // Each refusal of a run.
 use crate::pieces::{Kind, Order};
-use crate::running::{ended, gives, one_root};
+use crate::running::{Runs, ended_as, gives, one_root};
 use std::alloc::{AllocError, Global};
 use std::test::Fail;
 use vortex_io::{Arrive, Order as Arrival};
 
 // Whether a root that does this one thing gives this.
 fn fails_as(alloc: Global, order: Order, expected: &str) -> Result<bool, AllocError> {
-    gives(
-        alloc,
-        &[order],
-        Arrive::OnWait(Arrival::First),
-        &[3],
-        expected,
-    )
+    let arrive = Arrive::OnWait(Arrival::First);
+    gives(alloc, &[order], arrive, &[3], expected)
 }
 
 #[test]
 fn each_cause_has_its_refusal(rt: HostRuntime) -> Result<(), Fail> {
-    let alloc = rt.alloc();
     let cases = [
         (Order::Nothing, "empty-io"),
         (Order::Fail, "planner"),
@@ -34,21 +28,33 @@ fn each_cause_has_its_refusal(rt: HostRuntime) -> Result<(), Fail> {
         (Order::Continue, "done0 idle"),
     ];
     for (order, expected) in cases {
-        assert!(rt; fails_as(alloc, order, expected)?);
+        assert!(rt; fails_as(rt.alloc(), order, expected)?);
     }
     Ok(())
 }
 
-// A limit of visits is refused where an item is ready.
+// A run of one root whose morsel goes on a hundred times, with this limit of visits.
+fn limited(alloc: Global, limit: u64) -> Result<Runs, AllocError> {
+    let orders = [Order::Morsel(Kind::GoesOn(100))];
+    let run = one_root(alloc, &orders, Arrive::OnPoll(Arrival::First), &[])?;
+    Ok(run.with_step_limit(limit))
+}
+
+// Whether it gives this, and then that.
+fn ends_as(alloc: Global, limit: u64, first: &str, second: &str) -> Result<bool, AllocError> {
+    let mut run = limited(alloc, limit)?;
+    Ok(ended_as(alloc, &mut run, first)? && ended_as(alloc, &mut run, second)?)
+}
+
 #[test]
 fn a_limit_is_kept(rt: HostRuntime) -> Result<(), Fail> {
-    let alloc = rt.alloc();
-    let orders = [Order::Morsel(Kind::GoesOn(100))];
-    let arrive = Arrive::OnPoll(Arrival::First);
-    let mut short = one_root(alloc, &orders, arrive, &[])?.with_step_limit(10);
-    assert!(rt; ended(alloc, &mut short)?.as_str() == "step-limit");
-    assert!(rt; ended(alloc, &mut short)?.as_str() == "failed");
-    let mut enough = one_root(alloc, &orders, arrive, &[])?.with_step_limit(103);
-    assert!(rt; ended(alloc, &mut enough)?.as_str() == "done0 idle");
+    let cases = [
+        (0, "step-limit", "failed"),
+        (102, "step-limit", "failed"),
+        (103, "done0 idle", "idle"),
+    ];
+    for (limit, first, second) in cases {
+        assert!(rt; ends_as(rt.alloc(), limit, first, second)?);
+    }
     Ok(())
 }

@@ -1,10 +1,9 @@
 // Batches by place, whatever the order in which sources complete fetches.
 use crate::pieces::{Kind, Order};
-use crate::running::{admitted, ended, gives};
+use crate::running::{ended_as, gives, two_roots};
 use std::alloc::{AllocError, Global};
 use std::test::Fail;
 use vortex_io::{Arrive, Order as Arrival};
-use vortex_scan::Run;
 
 // Two children whose place is their parent's key.
 #[test]
@@ -47,35 +46,37 @@ fn three(alloc: Global, arrive: Arrive, expected: &str) -> Result<bool, AllocErr
 
 #[test]
 fn every_order_of_arrival_gives_the_same_batches(rt: HostRuntime) -> Result<(), Fail> {
-    let alloc = rt.alloc();
-    let polled = "0.0.=1 0.1.=3 0.2.=3 done0 idle";
-    assert!(rt; three(alloc, Arrive::OnPoll(Arrival::First), polled)?);
-    assert!(rt; three(alloc, Arrive::OnPoll(Arrival::Last), polled)?);
-    assert!(rt; three(alloc, Arrive::OnPoll(Arrival::Seeded(5)), polled)?);
-    assert!(rt; three(alloc, Arrive::OnWait(Arrival::First), polled)?);
-    assert!(rt;
-        three(
-            alloc,
+    let in_order = "0.0.=1 0.1.=3 0.2.=3 done0 idle";
+    let cases = [
+        (Arrive::OnPoll(Arrival::First), in_order),
+        (Arrive::OnPoll(Arrival::Last), in_order),
+        (Arrive::OnPoll(Arrival::Seeded(5)), in_order),
+        (Arrive::OnWait(Arrival::First), in_order),
+        (
             Arrive::OnWait(Arrival::Last),
-            "0.2.=3 0.1.=3 0.0.=1 done0 idle"
-        )?
-    );
+            "0.2.=3 0.1.=3 0.0.=1 done0 idle",
+        ),
+    ];
+    for (arrive, expected) in cases {
+        assert!(rt; three(rt.alloc(), arrive, expected)?);
+    }
     Ok(())
 }
 
-// Two roots: what is ready at the first comes first, and each root ends once.
-#[test]
-fn roots_are_taken_in_order_of_admission(rt: HostRuntime) -> Result<(), Fail> {
-    let alloc = rt.alloc();
-    let mut run = Run::new(alloc);
-    let arrive = Arrive::OnWait(Arrival::First);
+// Whether the ready root of two comes first, and each ends once.
+fn both_end(alloc: Global) -> Result<bool, AllocError> {
     let first = [Order::Morsel(Kind::Fetches(0))];
     let second = [Order::Morsel(Kind::Gives(9))];
-    assert!(rt; admitted(alloc, &mut run, &first, arrive, &[6])?);
-    assert!(rt; admitted(alloc, &mut run, &second, arrive, &[])?);
-    assert_eq!(rt; run.live_roots(), 2);
-    let log = ended(alloc, &mut run)?;
-    assert!(rt; log.as_str() == "1.0.=9 done1 0.0.=6 done0 idle");
-    assert_eq!(rt; run.live_roots(), 0);
+    let mut run = two_roots(alloc, &first, &second, Arrive::OnWait(Arrival::First), &[6])?;
+    if run.live_roots() != 2 {
+        return Ok(false);
+    }
+    let ended = ended_as(alloc, &mut run, "1.0.=9 done1 0.0.=6 done0 idle")?;
+    Ok(ended && run.live_roots() == 0)
+}
+
+#[test]
+fn roots_are_taken_in_order_of_admission(rt: HostRuntime) -> Result<(), Fail> {
+    assert!(rt; both_end(rt.alloc())?);
     Ok(())
 }

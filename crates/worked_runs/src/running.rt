@@ -1,10 +1,11 @@
 // What the cases share: sources of numbers, and runs that are taken to their end.
-ghost use Rattle.std.specs.Prelude.{◌≡◌, ℕ, [], IfOk};
+ghost use Rattle.std.specs.Prelude.{◌≡◌, ℕ, [], false, IfOk};
+ghost use Rattle.vortex_scan.specs.Asking.{IsAsking};
 
 use crate::pieces::{Cell, Failure, Order, Told, planner_of};
 use std::alloc::{AllocError, Global};
 use vortex_io::{Arrive, IoSource, MemorySource};
-use vortex_scan::{Batch, Progress, Run, RunError, WorkScope};
+use vortex_scan::{Batch, Progress, RootId, Run, RunError, WorkScope};
 
 pub type Runs = Run<Told, MemorySource<Cell>>;
 
@@ -58,15 +59,21 @@ pub fn one_root(
     Ok(run)
 }
 
-// Notes a batch by its place and its number of rows, as `0.1=3`.
-fn note_batch(alloc: Global, log: &mut String, batch: &Batch) -> Result<(), AllocError> {
+// Notes one number of a place.
+fn note_number(alloc: Global, log: &mut String, number: u64) -> Result<(), AllocError> {
+    let text = format!(in alloc; "{number}.")?;
+    log.push_str(text.as_str())
+}
+
+// Notes a batch by its place and its number of rows, as `0.1.=3`.
+fn note_batch(alloc: Global, log: &mut String, batch: &Batch) -> Result<bool, AllocError> {
     for number in batch.place().as_slice() {
-        let text = format!(in alloc; "{}.", *number)?;
-        log.push_str(text.as_str())?;
+        note_number(alloc, log, *number)?;
     }
     let rows = batch.array().rows();
     let text = format!(in alloc; "={rows} ")?;
-    log.push_str(text.as_str())
+    log.push_str(text.as_str())?;
+    Ok(true)
 }
 
 /// Why a run refused, by one word.
@@ -87,45 +94,82 @@ pub fn word(error: &RunError<Failure>) -> &'static str {
     }
 }
 
-// Goes on once, waits where it has to, and notes what came. The answer is whether there is more to come.
-fn go_on<S: IoSource<Payload = Cell>>(alloc: Global, run: &mut Run<Told, S>, log: &mut String) -> Result<bool, AllocError> {
-    match run.advance() {
-        Ok(Progress::Batch(batch)) => {
-            note_batch(alloc, log, &batch)?;
-            Ok(true)
-        }
-        Ok(Progress::RootDone(root)) => {
-            let text = format!(in alloc; "done{} ", root.0)?;
-            log.push_str(text.as_str())?;
-            Ok(true)
-        }
-        Ok(Progress::Waiting) => match run.wait_any() {
-            Ok(()) => Ok(true),
-            Err(error) => {
-                log.push_str(word(&error))?;
-                Ok(false)
-            }
-        },
-        Ok(Progress::Idle) => {
+// Notes why a run refused. Nothing more is to come.
+fn note_refusal(log: &mut String, error: &RunError<Failure>) -> Result<bool, AllocError> {
+    log.push_str(word(error))?;
+    Ok(false)
+}
+
+// Notes the end of a root.
+fn note_done(alloc: Global, log: &mut String, root: RootId) -> Result<bool, AllocError> {
+    let text = format!(in alloc; "done{} ", root.0)?;
+    log.push_str(text.as_str())?;
+    Ok(true)
+}
+
+// Notes what came. The answer is whether there is more to come.
+fn note(alloc: Global, log: &mut String, progress: Progress) -> Result<bool, AllocError> {
+    match progress {
+        Progress::Batch(batch) => note_batch(alloc, log, &batch),
+        Progress::RootDone(root) => note_done(alloc, log, root),
+        Progress::Waiting => Ok(false),
+        Progress::Idle => {
             log.push_str("idle")?;
-            Ok(false)
-        }
-        Err(error) => {
-            log.push_str(word(&error))?;
             Ok(false)
         }
     }
 }
 
-/// What a run gives until nothing is live or it is refused.
-pub fn ended<S: IoSource<Payload = Cell>>(alloc: Global, run: &mut Run<Told, S>) -> Result<String, AllocError> {
-    let mut log = String::new(alloc);
+// Waits for a source. The answer is whether there is more to come.
+fn wait<S: IoSource<Payload = Cell>>(
+    run: &mut Run<Told, S>,
+    log: &mut String,
+) -> Result<bool, AllocError>
+    requires well { run.old.failed ≡ false }
+    requires asking { (root : ℕ) × IsAsking run.old.live.items root }
+{
+    match run.wait_any() {
+        Ok(()) => Ok(true),
+        Err(error) => note_refusal(log, &error),
+    }
+}
+
+// Goes on once, waits where it has to, and notes what came. The answer is whether there is more to come.
+fn go_on<S: IoSource<Payload = Cell>>(
+    alloc: Global,
+    run: &mut Run<Told, S>,
+    log: &mut String,
+) -> Result<bool, AllocError> {
+    match run.advance() {
+        Ok(Progress::Waiting) => wait(run, log),
+        Ok(progress) => note(alloc, log, progress),
+        Err(error) => note_refusal(log, &error),
+    }
+}
+
+/// Notes what a run gives until nothing is live or it is refused.
+pub fn end_into<S: IoSource<Payload = Cell>>(
+    alloc: Global,
+    run: &mut Run<Told, S>,
+    log: &mut String,
+) -> Result<(), AllocError> {
     for _ in 0..500u64 {
-        if !go_on(alloc, run, &mut log)? {
-            return Ok(log);
+        if !go_on(alloc, run, log)? {
+            return Ok(());
         }
     }
-    Ok(log)
+    Ok(())
+}
+
+/// Whether a run gives this until nothing is live or it is refused.
+pub fn ended_as<S: IoSource<Payload = Cell>>(
+    alloc: Global,
+    run: &mut Run<Told, S>,
+    expected: &str,
+) -> Result<bool, AllocError> {
+    let mut log = String::new(alloc);
+    end_into(alloc, run, &mut log)?;
+    Ok(log.as_str() == expected)
 }
 
 /// Whether a run of one root gives this.
@@ -137,6 +181,18 @@ pub fn gives(
     expected: &str,
 ) -> Result<bool, AllocError> {
     let mut run = one_root(alloc, orders, arrive, numbers)?;
-    let log = ended(alloc, &mut run)?;
-    Ok(log.as_str() == expected)
+    ended_as(alloc, &mut run, expected)
+}
+
+/// A run of two roots with these orders, over sources of the same numbers.
+pub fn two_roots(
+    alloc: Global,
+    first: &[Order],
+    second: &[Order],
+    arrive: Arrive,
+    numbers: &[u64],
+) -> Result<Runs, AllocError> {
+    let mut run = one_root(alloc, first, arrive, numbers)?;
+    let _ = admitted(alloc, &mut run, second, arrive, numbers)?;
+    Ok(run)
 }

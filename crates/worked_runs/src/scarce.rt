@@ -2,7 +2,7 @@
 ghost use Rattle.std.specs.Prelude.{◌≡◌, [], IfErr};
 
 use crate::pieces::{Cell, Kind, Order, Told, planner_of};
-use crate::running::{cells, ended, no_rows};
+use crate::running::{cells, ended_as, no_rows};
 use std::alloc::{AllocError, Global};
 use std::test::Fail;
 use vortex_io::{Arrive, Completion, IoBatch, IoError, IoOwnerId, IoSource, MemorySource, Order as Arrival};
@@ -80,16 +80,26 @@ impl<S: IoSource> IoSource for Scarce<S> {
     }
 }
 
-// What a run of one morsel that fetches gives, if its source finds no memory after so many calls.
-fn given(alloc: Global, calls: u64) -> Result<String, AllocError> {
-    let inner = cells(alloc, Arrive::OnWait(Arrival::First), &[4])?;
-    let root = planner_of(alloc, &[Order::Morsel(Kind::Fetches(0))])?;
+// Whether a run of one morsel that fetches gives this, if its source finds no memory after so many calls.
+fn given(alloc: Global, calls: u64, expected: &str) -> Result<bool, AllocError> {
     let mut run: Run<Told, Scarce<MemorySource<Cell>>> = Run::new(alloc);
-    let _ = run.admit(root, no_rows(), Scarce { inner, left: calls });
-    ended(alloc, &mut run)
+    join(alloc, &mut run, calls)?;
+    ended_as(alloc, &mut run, expected)
 }
 
-// A poll, a batch, a poll, a wait, and a poll after each of the two answers.
+// Admits a root of one morsel that fetches, over such a source.
+fn join(
+    alloc: Global,
+    run: &mut Run<Told, Scarce<MemorySource<Cell>>>,
+    calls: u64,
+) -> Result<(), AllocError> {
+    let inner = cells(alloc, Arrive::OnWait(Arrival::First), &[4])?;
+    let root = planner_of(alloc, &[Order::Morsel(Kind::Fetches(0))])?;
+    let _ = run.admit(root, no_rows(), Scarce { inner, left: calls });
+    Ok(())
+}
+
+// A poll, a batch, a poll and a wait come first.
 #[test]
 fn a_source_without_memory_is_told(rt: HostRuntime) -> Result<(), Fail> {
     let cases = [
@@ -100,7 +110,7 @@ fn a_source_without_memory_is_told(rt: HostRuntime) -> Result<(), Fail> {
         (9, "0.0.=4 done0 idle"),
     ];
     for (calls, expected) in cases {
-        assert!(rt; given(rt.alloc(), calls)?.as_str() == expected);
+        assert!(rt; given(rt.alloc(), calls, expected)?);
     }
     Ok(())
 }

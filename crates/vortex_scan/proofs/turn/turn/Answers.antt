@@ -1,6 +1,7 @@
 use Rattle.std.proofs.Common.{◌≡◌, ◌≢◌, ◌∙◌, inl, inr, [], Some, ap}
 use Rattle.vortex_scan.specs.Going.{state_with}
 use Rattle.vortex_scan.proofs.Kept.{each_on}
+use Rattle.vortex_scan.proofs.Outcomes.{if_err, if_ok}
 use Rattle.vortex_scan.proofs.Turning.{asks_due_fits, must_ask, none_ready, rests, turns_came}
 use Rattle.vortex_scan.proofs.turn.turn.Goals as goal
 
@@ -16,36 +17,35 @@ returns-in_default-clause-ok g c = λ roots.
 pub returns-in-Err-clause-err : goal.returns-in-Err-clause-err
 returns-in-Err-clause-err g c = λ roots. inl (c.in-Err.ensures.err c.args.next_owner.now roots)
 
-pub visit_least-requires-clause-least : goal.visit_least-requires-clause-least
-visit_least-requires-clause-least g c = rw c.deref.ensures.value at c.in-Some.ensures
+pub visit_and_answer-requires-clause-least : goal.visit_and_answer-requires-clause-least
+visit_and_answer-requires-clause-least g c = rw c.deref.ensures.value at c.in-Some.ensures
 
-pub visit_least-requires-clause-fits : goal.visit_least-requires-clause-fits
-visit_least-requires-clause-fits g c =
+pub visit_and_answer-requires-clause-fits : goal.visit_and_answer-requires-clause-fits
+visit_and_answer-requires-clause-fits g c =
     asks_due_fits g.W.Worker g.S.IoSource g.W.Payload.Payload c.in-Ok.asked (state_with c.args.items.now.items c.args.slots.now.items c.args.next_owner.now c.args.counts.now 0)
     (state_with c.ask_if_due.new.items.items c.ask_if_due.new.slots.items c.args.next_owner.now c.ask_if_due.new.counts 0) c.requires.fits (c.in-Ok.ensures.ok c.args.next_owner.now 0)
 
-pub returns-in-Ok-visit_least-clause-ok : goal.returns-in-Ok-visit_least-clause-ok
-returns-in-Ok-visit_least-clause-ok g c = λ roots.
-    rw c.progress_of.ensures (turns_came g.W.Worker g.S.IoSource g.W.Payload.Payload (state_with c.args.items.now.items c.args.slots.now.items c.args.next_owner.now c.args.counts.now roots)
-    (state_with c.visit_least.new.items.items c.visit_least.new.slots.items c.visit_least.new.next_owner c.visit_least.new.counts roots) c.in-Ok-visit_least.visited
+pub returns-clause-ok : goal.returns-clause-ok
+returns-clause-ok g c =
+    if_ok _ _ c.visit_and_answer.result (λ answer visited. λ roots.
+    rw visited.1 (turns_came g.W.Worker g.S.IoSource g.W.Payload.Payload (state_with c.args.items.now.items c.args.slots.now.items c.args.next_owner.now c.args.counts.now roots)
+    (state_with c.visit_and_answer.new.items.items c.visit_and_answer.new.slots.items c.visit_and_answer.new.next_owner c.visit_and_answer.new.counts roots) visited.0
     (record {
       asked = c.in-Ok.asked;
       between = state_with c.ask_if_due.new.items.items c.ask_if_due.new.slots.items c.args.next_owner.now c.ask_if_due.new.counts roots;
       asks = c.in-Ok.ensures.ok c.args.next_owner.now roots;
-      visits = c.in-Ok-visit_least.ensures.ok roots;
-    }))
+      visits = visited.2 roots;
+    }))) c.visit_and_answer.ensures.ok
 
-pub returns-in-Err-visit_least-clause-err : goal.returns-in-Err-visit_least-clause-err
-returns-in-Err-visit_least-clause-err g c = λ roots.
+pub returns-clause-err : goal.returns-clause-err
+returns-clause-err g c =
+    if_err _ _ c.visit_and_answer.result (λ why fails. λ roots.
     inr (record {
       asked = c.in-Ok.asked;
       between = state_with c.ask_if_due.new.items.items c.ask_if_due.new.slots.items c.args.next_owner.now c.ask_if_due.new.counts roots;
       asks = c.in-Ok.ensures.ok c.args.next_owner.now roots;
-      fails = c.in-Err-visit_least.ensures.err roots;
-    })
+      fails = fails roots;
+    })) c.visit_and_answer.ensures.err
 
-pub returns-in-Ok-visit_least-clause-sources : goal.returns-in-Ok-visit_least-clause-sources
-returns-in-Ok-visit_least-clause-sources g c = each_on g.S.IoSource c.args.slots.now.items c.ask_if_due.new.slots.items c.visit_least.new.slots.items c.ask_if_due.ensures.sources c.visit_least.ensures.sources
-
-pub returns-in-Err-visit_least-clause-sources : goal.returns-in-Err-visit_least-clause-sources
-returns-in-Err-visit_least-clause-sources g c = each_on g.S.IoSource c.args.slots.now.items c.ask_if_due.new.slots.items c.visit_least.new.slots.items c.ask_if_due.ensures.sources c.visit_least.ensures.sources
+pub returns-clause-sources : goal.returns-clause-sources
+returns-clause-sources g c = each_on g.S.IoSource c.args.slots.now.items c.ask_if_due.new.slots.items c.visit_and_answer.new.slots.items c.ask_if_due.ensures.sources c.visit_and_answer.ensures.sources

@@ -2,15 +2,16 @@ use Rattle.std.proofs.Common.{◌≡◌, ◌∙◌, ◌+◌, ap, refl, arith, le
 use Rattle.vortex_scan.specs.Steps.{root_item}
 use Rattle.vortex_scan.specs.declared.worker.Work.TheVariants.{Planner}
 use Rattle.vortex_scan.proofs.Fitting.{admit_fits}
+use Rattle.vortex_scan.proofs.Joining.{admit_stays, not_failed}
 use Rattle.vortex_scan.proofs.Rooted.{admit_peopled}
 use Rattle.vortex_scan.proofs.run.Run.admit.Goals as goal
 
 pub invariant_of-self : goal.invariant_of-self
 invariant_of-self g c =
     let did = c.in-Ok.ensures.ok in
-    let long : length c.join.new.slots.items ≡ length c.self.inside.slots.items + 1 = ap length did.0 ∙ length-append c.self.inside.slots.items (record { source = c.args.io; live = true } ∷ []) in
+    let long : length c.admit_root.new.slots.items ≡ length c.self.inside.slots.items + 1 = ap length did.0 ∙ length-append c.self.inside.slots.items (record { source = c.args.io; live = true } ∷ []) in
     record {
-      none = c.join.ensures.room;
+      none = c.admit_root.ensures.room;
       enough = rw long did.2;
       fits = λ well.
           let f = c.self.invariant.fits well in
@@ -28,7 +29,14 @@ pub invariant_of-self-in-Err : goal.invariant_of-self-in-Err
 invariant_of-self-in-Err g c =
     let did = c.in-Err.ensures.ok in
     record {
-      none = c.join.ensures.room;
-      enough = rw did.0 (omega (arith, c.self.invariant.enough, c.join.ensures.less));
+      none = c.admit_root.ensures.room;
+      enough = rw did.0 (omega (arith, c.self.invariant.enough, c.admit_root.ensures.less));
       fits = λ well. rw (did.0, did.1) (c.self.invariant.fits well);
     }
+
+pub returns-in-Ok-clause-in_step : goal.returns-in-Ok-clause-in_step
+returns-in-Ok-clause-in_step g c =
+    let did = c.in-Ok.ensures.ok in
+    let well = not_failed c.self.inside.failed (λ f. c.in-Ok.ensures.run_failed.1 f) in
+    rw (← c.self.view_is, did.0, did.1) (admit_stays g.S.IoSource c.self.inside.items.items c.self.inside.slots.items c.self.inside.next_owner (c.self.inside.next_owner + 1) (record { source = c.args.io; live = true })
+    (root_item c.self.inside.next_root c.self.inside.next_owner c.args.scope (Planner c.args.root)) (c.self.invariant.fits well).live c.requires.idle refl)

@@ -2,6 +2,8 @@ use Rattle.std.proofs.Common.{◌≡◌, ◌∙◌, refl, inr, ap, Ok}
 use Rattle.vortex_scan.specs.declared.errors.Progress.TheVariants.{Idle}
 use Rattle.vortex_scan.specs.Going.{state_with}
 use Rattle.vortex_scan.specs.RunState.{live_with}
+use Rattle.vortex_scan.proofs.Delivered.{advances_stay}
+use Rattle.vortex_scan.proofs.Expecting.{advance_lies}
 use Rattle.vortex_scan.proofs.Faulting.{advance_cause}
 use Rattle.vortex_scan.proofs.Idling.{fails_with_items, idle_exactly}
 use Rattle.vortex_scan.proofs.Kept.{each_long, each_same}
@@ -87,3 +89,12 @@ returns-in-Err-clause-asking g c = rw (← c.self.view_is) (fails_enough _ g.S.I
 
 pub returns-in-Err-clause-cause : goal.returns-in-Err-clause-cause
 returns-in-Err-clause-cause g c = rw (← c.self.view_is) (advance_cause _ g.S.IoSource _ _ _ c.in-Err.error (c.self.invariant.fits c.if-self.false).live (c.in-Err.ensures.err c.self.inside.next_root))
+
+pub returns-then-self-clause-unexpected : goal.returns-then-self-clause-unexpected
+returns-then-self-clause-unexpected g c = λ root owner request e was. absurd (cc)
+
+pub returns-in-Err-clause-unexpected : goal.returns-in-Err-clause-unexpected
+returns-in-Err-clause-unexpected g c = rw (← c.self.view_is) (advance_lies _ g.S.IoSource _ _ _ c.in-Err.error (c.self.invariant.fits c.if-self.false).live (c.in-Err.ensures.err c.self.inside.next_root))
+
+pub returns-in-Ok-clause-in_step : goal.returns-in-Ok-clause-in_step
+returns-in-Ok-clause-in_step g c = rw (← c.self.view_is) (advances_stay _ g.S.IoSource _ _ _ c.in-Ok.answer (c.self.invariant.fits c.if-self.false).live (c.in-Ok.ensures.ok c.self.inside.next_root))

@@ -1,6 +1,8 @@
 use Rattle.std.proofs.Common.{◌≢◌, ◌∙◌, refl, inr, length, ap}
 use Rattle.vortex_scan.specs.RunState.{live_count, live_with}
 use Rattle.vortex_scan.proofs.Asked.{asks_once_fits}
+use Rattle.vortex_scan.proofs.Delivered.{asks_once_stays}
+use Rattle.vortex_scan.proofs.Expecting.{asking_lies}
 use Rattle.vortex_scan.proofs.Faulting.{asking_cause}
 use Rattle.vortex_scan.proofs.Kept.{each_long, each_same}
 use Rattle.vortex_scan.proofs.Polling.{once_are_quiet, once_fewer, once_items}
@@ -68,3 +70,16 @@ returns-in-Ok-clause-roots g c = rw (← c.self.view_is) ((asks_once_same _ g.S.
 
 pub returns-in-Err-clause-cause : goal.returns-in-Err-clause-cause
 returns-in-Err-clause-cause g c = rw (← c.self.view_is) (asking_cause _ g.S.IoSource _ (live_with c.self.inside.items.items c.self.inside.slots.items c.self.inside.next_owner) (live_with c.ask_once.new.items.items c.ask_once.new.slots.items c.self.inside.next_owner) c.in-Err.error (c.in-Err.ensures.err c.self.inside.next_owner))
+
+pub returns-then-self-clause-unexpected : goal.returns-then-self-clause-unexpected
+returns-then-self-clause-unexpected g c = λ root owner request e was. absurd (cc)
+
+pub returns-then-count_live-eq0-clause-unexpected : goal.returns-then-count_live-eq0-clause-unexpected
+returns-then-count_live-eq0-clause-unexpected g c = λ root owner request e was. absurd (cc)
+
+pub returns-in-Err-clause-unexpected : goal.returns-in-Err-clause-unexpected
+returns-in-Err-clause-unexpected g c = rw (← c.self.view_is) (asking_lies _ g.S.IoSource _ (live_with c.self.inside.items.items c.self.inside.slots.items c.self.inside.next_owner) (live_with c.ask_once.new.items.items c.ask_once.new.slots.items c.self.inside.next_owner) c.in-Err.error (c.self.invariant.fits c.if-self.false).live (c.in-Err.ensures.err c.self.inside.next_owner))
+
+pub returns-in-Ok-clause-in_step : goal.returns-in-Ok-clause-in_step
+returns-in-Ok-clause-in_step g c =
+    rw (← c.self.view_is) (asks_once_stays _ g.S.IoSource _ (length c.self.inside.slots.items) (live_with c.self.inside.items.items c.self.inside.slots.items c.self.inside.next_owner) (live_with c.ask_once.new.items.items c.ask_once.new.slots.items c.self.inside.next_owner) c.in-Ok.came (c.self.invariant.fits c.if-self.false).live (c.in-Ok.ensures.ok c.self.inside.next_owner))

@@ -2,6 +2,8 @@ use Rattle.std.proofs.Common.{◌≡◌, ◌∙◌, refl, Some, slice_get}
 use Rattle.std.proofs.lemmas.Option.{slice_get_within}
 use Rattle.vortex_scan.specs.RunState.{live_with}
 use Rattle.vortex_scan.proofs.Asked.{asking_live, some_outstanding, waits_fits}
+use Rattle.vortex_scan.proofs.Delivered.{waits_stays}
+use Rattle.vortex_scan.proofs.Expecting.{wait_lies}
 use Rattle.vortex_scan.proofs.Faulting.{wait_cause}
 use Rattle.vortex_scan.proofs.Kept.{each_long}
 use Rattle.vortex_scan.proofs.Rooted.{peopled_same, waits_same}
@@ -73,3 +75,11 @@ returns-in-Ok-clause-roots g c = rw (← c.self.view_is) ((waits_same _ g.S.IoSo
 
 pub returns-in-Err-clause-cause : goal.returns-in-Err-clause-cause
 returns-in-Err-clause-cause g c = rw (← c.self.view_is) (wait_cause _ g.S.IoSource _ c.in-Some.root (live_with c.self.inside.items.items c.self.inside.slots.items c.self.inside.next_owner) (live_with c.wait_for.new.items.items c.wait_for.new.slots.items c.self.inside.next_owner) c.in-Err.error (c.in-Err.ensures.err c.self.inside.next_owner))
+
+pub returns-in-Err-clause-unexpected : goal.returns-in-Err-clause-unexpected
+returns-in-Err-clause-unexpected g c = rw (← c.self.view_is) (wait_lies _ g.S.IoSource _ c.in-Some.root (live_with c.self.inside.items.items c.self.inside.slots.items c.self.inside.next_owner) (live_with c.wait_for.new.items.items c.wait_for.new.slots.items c.self.inside.next_owner) c.in-Err.error (c.in-Err.ensures.err c.self.inside.next_owner))
+
+pub returns-in-Ok-clause-in_step : goal.returns-in-Ok-clause-in_step
+returns-in-Ok-clause-in_step g c =
+    let fits = (c.self.invariant.fits (rw (← c.self.view_is) at c.requires.well)).live in
+    rw (← c.self.view_is) (waits_stays _ g.S.IoSource _ c.in-Some.root (live_with c.self.inside.items.items c.self.inside.slots.items c.self.inside.next_owner) (live_with c.wait_for.new.items.items c.wait_for.new.slots.items c.self.inside.next_owner) fits (c.in-Ok.ensures.ok c.self.inside.next_owner))

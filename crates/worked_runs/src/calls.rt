@@ -14,27 +14,27 @@ const WAITS: Arrive = Arrive::OnWait(Arrival::First);
 
 const POLLS: Arrive = Arrive::OnPoll(Arrival::First);
 
+const SEEDED: Arrive = Arrive::OnPoll(Arrival::Seeded(5));
+
 // How many sources come back.
 fn taken(run: &mut Runs) -> usize {
     run.take_sources().len()
 }
 
-// Whether a run refuses a root since it failed, and gives back its source, whose second split has the number 5.
+// Whether a run refuses a root since it failed, and gives back its source.
 fn refuses(run: &mut Runs, root: Told, source: MemorySource<Cell>) -> bool
     requires { source.outstanding ≡ [] }
 {
     match run.admit(root, no_rows(), source) {
         Ok(_) => false,
-        Err(refused) => {
-            refused.error == AdmitError::RunFailed && refused.source.chunk(1, 0).value == 5
-        }
+        Err(refused) => refused.error == AdmitError::RunFailed && refused.source.arrive() == SEEDED,
     }
 }
 
 // Whether a run whose sources were taken refuses a root.
 fn refuses_late(alloc: Global, run: &mut Runs) -> Result<bool, AllocError> {
     let _ = taken(run);
-    let source = cells(alloc, POLLS, &[4, 5])?;
+    let source = cells(alloc, SEEDED, &[4, 5])?;
     let root = planner_of(alloc, &[Order::Continue])?;
     Ok(refuses(run, root, source))
 }

@@ -49,8 +49,7 @@ impl IoConsumer for Counter {
     fn set_io_result(&mut self, request: IoRequestId, outcome: IoResult<Cell>)
         ensures takes { Unit {0} }
         ensures names { (number : IoRequestId) → (number ≡ number) }
-    {
-    }
+    {}
 }
 
 impl Morsel for Counter {
@@ -119,8 +118,7 @@ impl IoConsumer for Maker {
     fn set_io_result(&mut self, request: IoRequestId, outcome: IoResult<Cell>)
         ensures takes { Unit {0} }
         ensures names { (number : IoRequestId) → (number ≡ number) }
-    {
-    }
+    {}
 }
 
 impl Planner for Maker {

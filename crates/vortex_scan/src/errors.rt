@@ -2,8 +2,7 @@
 use crate::batch::Batch;
 use crate::place::RootId;
 use std::alloc::AllocError;
-use std::error;
-use std::fmt;
+use std::{error, fmt};
 use thiserror::Error;
 use vortex_io::{IoOwnerId, IoRequestId};
 

@@ -2,7 +2,9 @@
 ghost use Rattle.std.specs.Prelude.{◌≡◌, []};
 
 use crate::pieces::{Cell, Kind, Order, Told, planner_of};
-use crate::running::{Runs, admitted, cells, end_into, ended_as, no_rows, one_root, two_roots, word};
+use crate::running::{
+    Runs, admitted, cells, end_into, ended_as, no_rows, one_root, two_roots, word,
+};
 use std::alloc::{AllocError, Global};
 use std::test::Fail;
 use vortex_io::{

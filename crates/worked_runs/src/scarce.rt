@@ -5,7 +5,9 @@ use crate::pieces::{Cell, Kind, Order, Told, planner_of};
 use crate::running::{cells, ended_as, no_rows};
 use std::alloc::{AllocError, Global};
 use std::test::Fail;
-use vortex_io::{Arrive, Completion, IoBatch, IoError, IoOwnerId, IoSource, MemorySource, Order as Arrival};
+use vortex_io::{
+    Arrive, Completion, IoBatch, IoError, IoOwnerId, IoSource, MemorySource, Order as Arrival,
+};
 use vortex_scan::Run;
 
 /// A source that passes calls on to another, and finds no memory once so many were made.

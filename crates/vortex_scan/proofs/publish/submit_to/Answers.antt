@@ -12,10 +12,13 @@ returns-in-Ok-clause-ok g c = λ slot at.
 
 pub returns-in-Err-Fault-clause-err : goal.returns-in-Err-Fault-clause-err
 returns-in-Err-Fault-clause-err g c =
-    inr (refl, λ slot at.
-    let same : c.index_mut-slot.result.now ≡ slot = c.index_mut-slot.ensures.value ∙ get_or_from_slice_get c.args.slots.now.items c.args.root.0 slot c.index_mut-slot.result.now at in
-    let told = rw c.in-Err-Fault.field-0-is at c.in-Err-Fault.ensures in
-    (c.submit.new.source, rw same at told, ap (λ (s : Slot _). set c.args.slots.now.items c.args.root.0 (record s { source = c.submit.new.source })) same))
+    inr (
+      refl,
+      λ slot at.
+          let same : c.index_mut-slot.result.now ≡ slot = c.index_mut-slot.ensures.value ∙ get_or_from_slice_get c.args.slots.now.items c.args.root.0 slot c.index_mut-slot.result.now at in
+          let told = rw c.in-Err-Fault.field-0-is at c.in-Err-Fault.ensures in
+          (c.submit.new.source, rw same at told, ap (λ (s : Slot _). set c.args.slots.now.items c.args.root.0 (record s { source = c.submit.new.source })) same),
+    )
 
 pub returns-in-Ok-clause-sources : goal.returns-in-Ok-clause-sources
 returns-in-Ok-clause-sources g c =

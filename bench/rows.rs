@@ -1,15 +1,19 @@
 // Times the row operations of `vortex_array_rows` beside stock Rust loops of the same job. Built and run by `bench/rows`.
+mod clock;
 mod memory;
 mod stock;
 
 use std::hint::black_box;
-use std::time::Instant;
 use stock::{count, kept_values};
 
 extern "C" {
     fn bench_filter(values: *const u64, len: usize, words: *const u64, words_len: usize, last: *mut u64) -> usize;
     fn bench_take(values: *const u64, len: usize, places: *const usize, places_len: usize, last: *mut u64) -> usize;
     fn bench_slice(values: *const u64, len: usize, start: usize, end: usize, last: *mut u64) -> usize;
+    fn bench_lists_below(bytes: *const u8, bytes_len: usize, ends: *const usize, len: usize, other: *const u8, other_len: usize, times: usize) -> usize;
+    fn bench_lists_equal(bytes: *const u8, bytes_len: usize, ends: *const usize, len: usize, other: *const u8, other_len: usize, times: usize) -> usize;
+    fn bench_lists_below_next(bytes: *const u8, bytes_len: usize, ends: *const usize, len: usize, times: usize) -> usize;
+    fn bench_lists_equal_next(bytes: *const u8, bytes_len: usize, ends: *const usize, len: usize, times: usize) -> usize;
 }
 
 const ROWS: usize = 10_000_000;
@@ -37,14 +41,14 @@ fn stock_slice(values: &[u64], start: usize, end: usize) -> Vec<u64> {
     values[start..end].to_vec()
 }
 
-// The least time of each of these jobs, in milliseconds. They take turns.
+// The least processor time of each of these jobs, in milliseconds. They take turns.
 fn least(jobs: &mut [&mut dyn FnMut() -> usize]) -> Vec<f64> {
     let mut times = vec![f64::INFINITY; jobs.len()];
     for _ in 0..RUNS {
         for (time, job) in times.iter_mut().zip(jobs.iter_mut()) {
-            let start = Instant::now();
+            let start = clock::now();
             black_box(job());
-            *time = time.min(start.elapsed().as_secs_f64() * 1000.0);
+            *time = time.min(clock::now() - start);
         }
     }
     times
@@ -103,4 +107,56 @@ fn main() {
         &mut || black_box(stock_slice(black_box(&values), 1, ROWS - 1)).len(),
     ]);
     row("slice, all but two", times[0], &times[1..]);
+    println!();
+    lists(&mut random);
+}
+
+// Texts one after another, and where each ends.
+struct Texts {
+    bytes: Vec<u8>,
+    ends: Vec<usize>,
+}
+
+impl Texts {
+    fn get(&self, i: usize) -> &[u8] {
+        let start = if i == 0 { 0 } else { self.ends[i - 1] };
+        &self.bytes[start..self.ends[i]]
+    }
+
+    fn count(&self, start: usize, answer: impl Fn(&[u8], usize) -> bool) -> usize {
+        (start..self.ends.len()).map(|i| answer(self.get(i), i) as usize).sum()
+    }
+
+    fn next(&self, i: usize) -> &[u8] {
+        self.get(if i + 1 < self.ends.len() { i + 1 } else { 0 })
+    }
+}
+
+// Lists of bytes compared. Ours copies the lists that are lent first, so that a call that asks twice less one that asks once
+// counts.
+fn lists(random: &mut dyn FnMut() -> u64) {
+    let words = ["north", "south", "east", "west", "northeast", "southwest", "northwestern", "southern"];
+    let mut texts = Texts { bytes: Vec::new(), ends: Vec::new() };
+    for _ in 0..ROWS {
+        texts.bytes.extend_from_slice(words[random() as usize % words.len()].as_bytes());
+        texts.ends.push(texts.bytes.len());
+    }
+    let (bytes, size, ends) = (texts.bytes.as_ptr(), texts.bytes.len(), texts.ends.as_ptr());
+    for other in ["northwest", "south", "southwest", "northwestern", "x"] {
+        let other = black_box(other).as_bytes();
+        let ours = |times| unsafe { bench_lists_below(bytes, size, ends, ROWS, other.as_ptr(), other.len(), times) };
+        raced(&texts, &format!("< {}", String::from_utf8_lossy(other)), &ours, |text, _| text < other);
+        let ours = |times| unsafe { bench_lists_equal(bytes, size, ends, ROWS, other.as_ptr(), other.len(), times) };
+        raced(&texts, &format!("= {}", String::from_utf8_lossy(other)), &ours, |text, _| text == other);
+    }
+    let ours = |times| unsafe { bench_lists_below_next(bytes, size, ends, ROWS, times) };
+    raced(&texts, "< the next", &ours, |text, i| text < texts.next(i));
+    let ours = |times| unsafe { bench_lists_equal_next(bytes, size, ends, ROWS, times) };
+    raced(&texts, "= the next", &ours, |text, i| text == texts.next(i));
+}
+
+fn raced(texts: &Texts, name: &str, ours: &dyn Fn(usize) -> usize, answer: impl Fn(&[u8], usize) -> bool + Copy) {
+    assert_eq!(ours(1), texts.count(0, answer), "{name}");
+    let times = least(&mut [&mut || ours(1), &mut || ours(5), &mut || black_box(texts).count(0, answer)]);
+    row(&format!("lists {name}"), (times[1] - times[0]) / 4.0, &times[2..]);
 }

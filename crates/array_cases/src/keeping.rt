@@ -88,8 +88,12 @@ fn push_decimals(text: &mut String, alloc: Global, array: &DecimalArray) -> Resu
 // Which rows of texts or bytes are not null.
 fn push_lists(text: &mut String, array: &VarBinViewArray) -> Result<(), AllocError> {
     text.push_str("lists, not null at ")?;
-    for is_present in array.parts().present {
-        text.push(if *is_present { '1' } else { '0' })?;
+    for i in 0..array.len() {
+        text.push(if array.validity().is_valid(i) {
+            '1'
+        } else {
+            '0'
+        })?;
     }
     Ok(())
 }

@@ -2,7 +2,7 @@
 ghost use Rattle.std.specs.Prelude.{◌≡◌, ◌≤◌, IsTrue, length};
 ghost use Rattle.vortex_buffer.specs.Mask.{mask_bits};
 ghost use Rattle.vortex_array.specs.ColumnOf.{column_of};
-ghost use Rattle.vortex_array_kinds.specs.ByteRows.{is_text_type};
+ghost use Rattle.vortex_array_kinds.specs.StringValues.{is_text_type};
 ghost use Rattle.vortex_array_select.specs.Selected.{NamesRows};
 ghost use Rattle.vortex_array_types.specs.Typed.{same_apart_from_nullability};
 

@@ -1,7 +1,7 @@
 // Calls that are made so many times, at least once.
 ghost use Rattle.std.specs.Prelude.{◌≡◌, length};
 ghost use Rattle.vortex_array.specs.ColumnOf.{column_of};
-ghost use Rattle.vortex_array_kinds.specs.ByteRows.{is_text_type};
+ghost use Rattle.vortex_array_kinds.specs.StringValues.{is_text_type};
 
 use crate::once::{cast_once, compare_once, filter_once, like_once, slice_once, take_once};
 use crate::telling::Told;

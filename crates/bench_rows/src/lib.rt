@@ -1,8 +1,10 @@
-//! The row operations on values, under C names, so that `bench/rows` can time them beside stock Rust. Each answers how
+//! The row operations on values and on lists of bytes, under C names, so that `bench/rows` can time them beside stock Rust. Each answers how
 //! many rows it gave, and the last of them through `last`.
 #![tactic(auto)]
 
 ghost use Rattle.std.specs.Prelude.{◌≡◌, ◌≤◌, ◌<◌, ◌*◌, All, length, map};
+
+mod lists;
 
 use std::alloc::Global;
 use vortex_array_rows::{filter_items, slice_items, take_items};

@@ -1,7 +1,7 @@
 -- Indices as places, and equal indices.
 use Rattle.std.proofs.Common.{ℕ, zero, suc, ◌<◌, ◌≡◌, Bool, true, false, cond, List, [], ◌∷◌, length, get_or, map, replicate, refl, sym, ap, subst, ◌∙◌, arith, Option, Some, None}
 use Rattle.std.specs.Prelude.{ℤ, pos, negsuc, IsTrue, All}
-use Rattle.std.proofs.lemmas.List.{get_or-replicate, length-map, length-replicate}
+use Rattle.std.proofs.lemmas.List.{ext_get_or, get_or-map, get_or-replicate, length-map, length-replicate}
 use Rattle.vortex_array_types.specs.Row.{Column, TypedRow, fits_type, in_width, is_nullable, value_fits}
 use Rattle.vortex_array_types.specs.Widths.{has_no_sign, nullable_form}
 use Rattle.vortex_array_types.specs.declared.types.PType.{PType}
@@ -11,15 +11,15 @@ use Rattle.vortex_array_types.specs.declared.types.DType.TheVariants as dtype
 use Rattle.vortex_array_types.specs.declared.types.PType.TheVariants as width
 use Rattle.vortex_array_types.specs.declared.scalar.Value.{Value}
 use Rattle.vortex_array_types.specs.declared.scalar.Value.TheVariants as value
-use Rattle.vortex_array_rows.specs.Taken.{SetPlacesBelow, taken_or}
 use Rattle.vortex_array_kinds.specs.Kinds.{constant_column}
-use Rattle.vortex_array_kinds.specs.Validities.{is_as_long, nullability_of, rows_under}
+use Rattle.vortex_array_kinds.specs.Validities.{is_as_long, nullability_of, rows_under, valid_at}
 use Rattle.vortex_array_select.specs.Selected.{IndexBelow, is_index_type, row_at, taken}
 use Rattle.vortex_array_select.specs.SelectedParts.{PlacesBelow, index_column}
 use Rattle.vortex_array_kinds.specs.declared.validity.Validity.{Validity}
 use Rattle.vortex_array_kinds.specs.declared.validity.Validity.TheVariants.{NonNullable, AllValid, AllInvalid, Bits}
-use Rattle.vortex_array_select.proofs.SelectedRows.{column_with, same-column}
-use Rattle.vortex_array_select.proofs.TakenRows.{at_nulls, at_places, at_set, index_rows, places-below}
+use Rattle.vortex_array_kinds.proofs.RowLemmas.{column_with}
+use Rattle.vortex_array_select.proofs.SelectedRows.{same-column}
+use Rattle.vortex_array_select.proofs.TakenRows.{index_rows, length-taken, place-below, places-below, taken-at}
 use Rattle.vortex_array.specs.Index.{nulls_of_index, number_column, place_of, place_of_index}
 
 -- places as numbers are the numbers of places
@@ -109,58 +109,41 @@ equal-long row place AllInvalid n h = refl
 equal-long row place (Bits bits) n h = absurd h
 
 -- each place of one row is 0
-first_below : (n : ℕ) → All (λ i. i < 1) (map (λ i. i) (replicate n 0))
-first_below zero k d l = absurd (omega (arith, l))
-first_below (suc n) zero d l = omega arith
-first_below (suc n) (suc k) d l = first_below n k d (omega (arith, l))
+zero_at : (n k : ℕ) → k < n → get_or (map (λ (i : ℕ). i) (replicate n 0)) k 0 ≡ 0
+zero_at n k l = get_or-map (λ (i : ℕ). i) (replicate n 0) k 0 0 (omega (arith, l, length-replicate {A = ℕ} n 0)) ∙ get_or-replicate n k 0 0 l
 
-first_set : (n : ℕ) (set : List Bool) → SetPlacesBelow 1 (map (λ i. i) (replicate n 0)) set
-first_set n set k l e = first_below n k 0 l
+length_zeros : (n : ℕ) → length (map (λ (i : ℕ). i) (replicate n 0)) ≡ n
+length_zeros n = length-map (replicate n 0) (λ (i : ℕ). i) ∙ length-replicate {A = ℕ} n 0
 
-equal_at : (x : Option Value) (n i : ℕ) → i < n → x ≡ get_or (replicate n x) i None
-equal_at x n i l = sym (get_or-replicate n i x None l)
+one_there : (x : Option Value) (n i j : ℕ) (b : Bool) → j ≡ 0 → (b ≡ true → i < n) → cond b (get_or (x ∷ []) j None) None ≡ cond b (get_or (replicate n x) i None) None
+one_there x n i j true e h = ap (λ k. get_or (x ∷ []) k None) e ∙ sym (get_or-replicate n i x None (h refl))
+one_there x n i j false e h = refl
 
-one_at : (x : Option Value) (n : ℕ) (places : List ℕ) → All (λ i. i < n) places
-    → map (λ i. get_or (x ∷ []) i None) (map (λ i. i) (replicate (length places) 0)) ≡ map (λ i. get_or (replicate n x) i None) places
-one_at x n [] h = refl
-one_at x n (i ∷ places) h =
-    ap (λ r. r ∷ map (λ k. get_or (x ∷ []) k None) (map (λ k. k) (replicate (length places) 0))) (equal_at x n i (h 0 0 (omega arith)))
-    ∙ ap (λ rs. get_or (replicate n x) i None ∷ rs) (one_at x n places (λ k d l. h (suc k) d (omega (arith, l))))
-
-where_one : (x : Option Value) (n i : ℕ) (b : Bool) → (b ≡ true → i < n) → cond b x None ≡ cond b (get_or (replicate n x) i None) None
-where_one x n i true h = equal_at x n i (h refl)
-where_one x n i false h = refl
-
-one_set : (x : Option Value) (n : ℕ) (places : List ℕ) (set : List Bool) → SetPlacesBelow n places set
-    → taken_or None (x ∷ []) (map (λ i. i) (replicate (length places) 0)) set ≡ taken_or None (replicate n x) places set
-one_set x n [] set h = refl
-one_set x n (i ∷ places) [] h = refl
-one_set x n (i ∷ places) (b ∷ set) h =
-    ap (λ r. r ∷ taken_or None (x ∷ []) (map (λ k. k) (replicate (length places) 0)) set) (where_one x n i b (h 0 (omega arith)))
-    ∙ ap (λ rs. cond b (get_or (replicate n x) i None) None ∷ rs) (one_set x n places set (λ k l. h (suc k) (omega (arith, l))))
-
-length_first : (places : List ℕ) → length (map (λ (i : ℕ). i) (replicate (length places) 0)) ≡ length places
-length_first [] = refl
-length_first (i ∷ places) = ap suc (length_first places)
-
-rows_of_one : (x : Option Value) (n : ℕ) (w : Validity) (places : List ℕ) → PlacesBelow n w places
+rows_of_one : (x : Option Value) (n : ℕ) (w : Validity) (places : List ℕ) → IsTrue (is_as_long w (length places)) → PlacesBelow n w places
     → map (row_at (x ∷ [])) (index_rows w (map (λ i. i) (replicate (length places) 0))) ≡ map (row_at (replicate n x)) (index_rows w places)
-rows_of_one x n NonNullable places h = at_places (x ∷ []) _ ∙ one_at x n places h ∙ sym (at_places (replicate n x) places)
-rows_of_one x n AllValid places h = at_places (x ∷ []) _ ∙ one_at x n places h ∙ sym (at_places (replicate n x) places)
-rows_of_one x n AllInvalid places h = at_nulls (x ∷ []) _ ∙ ap (λ m. replicate m None) (length_first places) ∙ sym (at_nulls (replicate n x) places)
-rows_of_one x n (Bits set) places h = at_set (x ∷ []) _ set ∙ one_set x n places set h ∙ sym (at_set (replicate n x) places set)
+rows_of_one x n w places long h =
+    let firsts = map (λ (i : ℕ). i) (replicate (length places) 0) in
+    let same : length firsts ≡ length places = length_zeros (length places) in
+    let count : length (map (row_at (x ∷ [])) (index_rows w firsts)) ≡ length places = length-taken (x ∷ []) w firsts (rw same long) ∙ same in
+    ext_get_or None (map (row_at (x ∷ [])) (index_rows w firsts)) (map (row_at (replicate n x)) (index_rows w places))
+    (count ∙ sym (length-taken (replicate n x) w places long))
+    (λ k l.
+    let inside : k < length places = omega (arith, l, count) in
+    taken-at (x ∷ []) w firsts k (omega (arith, inside, same))
+    ∙ one_there x n (get_or places k 0) (get_or firsts k 0) (valid_at w k) (zero_at (length places) k inside) (place-below n w places k h inside)
+    ∙ sym (taken-at (replicate n x) w places k inside))
 
 -- what is taken of equal rows is what is taken of one of them
-pub one-taken : (row : TypedRow) (n : ℕ) (w : Validity) (places : List ℕ) → PlacesBelow n w places
+pub one-taken : (row : TypedRow) (n : ℕ) (w : Validity) (places : List ℕ) → IsTrue (is_as_long w (length places)) → PlacesBelow n w places
     → taken (index_column w (map (λ i. i) (replicate (length places) 0))) (column_with row.dtype (row.value ∷ [])) ≡ taken (index_column w places) (constant_column (record { scalar = row; len = n }))
-one-taken row n w places h = same-column _ _ _ _ refl (rows_of_one row.value n w places h)
+one-taken row n w places long h = same-column _ _ _ _ refl (rows_of_one row.value n w places long h)
 
 -- and by places of any type
-pub one-taken-by : {P : Type 0} (f : P → ℕ) (row : TypedRow) (n : ℕ) (w : Validity) (places : List P) → PlacesBelow (length (replicate n row.value)) w (map f places)
+pub one-taken-by : {P : Type 0} (f : P → ℕ) (row : TypedRow) (n : ℕ) (w : Validity) (places : List P) → IsTrue (is_as_long w (length places)) → PlacesBelow (length (replicate n row.value)) w (map f places)
     → taken (index_column w (map (λ i. i) (replicate (length places) 0))) (column_with row.dtype (row.value ∷ [])) ≡ taken (index_column w (map f places)) (constant_column (record { scalar = row; len = n }))
-one-taken-by f row n w places h =
+one-taken-by f row n w places long h =
     ap (λ m. taken (index_column w (map (λ i. i) (replicate m 0))) (column_with row.dtype (row.value ∷ []))) (sym (length-map places f))
-    ∙ one-taken row n w (map f places) (subst (λ m. PlacesBelow m w (map f places)) (length-replicate n row.value) h)
+    ∙ one-taken row n w (map f places) (rw (length-map places f) long) (subst (λ m. PlacesBelow m w (map f places)) (length-replicate n row.value) h)
 
 -- indices that are equal rows below n have a place below n
 pub equal-below : (row : TypedRow) (place : ℕ) (w : Validity) (m n : ℕ) → IsIndex row place w → All (IndexBelow n) (replicate m row.value) → PlacesBelow n w (map (λ i. i) (replicate m place))

@@ -7,7 +7,7 @@ use Rattle.vortex_array_types.specs.declared.types.DType.{DType}
 use Rattle.vortex_array_types.specs.declared.types.DType.TheVariants as dtype
 use Rattle.vortex_array_types.specs.declared.scalar.Value.{Value}
 use Rattle.vortex_array_types.specs.declared.scalar.Value.TheVariants as value
-use Rattle.vortex_array_kinds.specs.ByteRows.{is_text_type}
+use Rattle.vortex_array_kinds.specs.StringValues.{is_text_type}
 
 -- the value is a text
 abbrev pub is_text : Value → Bool

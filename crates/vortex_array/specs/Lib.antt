@@ -1,4 +1,5 @@
 pub mod ColumnOf
+pub mod Plain
 pub mod Batch
 pub mod Head
 pub mod Single

@@ -36,6 +36,61 @@ impl Drop for Array {
     }
 }
 
+// What the expression is for the array, whatever its kind.
+macro_rules! each_kind {
+    ($array:expr, $kind:ident => $answer:expr) => {
+        match $array {
+            Array::Bool($kind) => $answer,
+            Array::Primitive($kind) => $answer,
+            Array::Decimal($kind) => $answer,
+            Array::VarBinView($kind) => $answer,
+            Array::Constant($kind) => $answer,
+        }
+    };
+}
+
+// The same, where the expression makes a part or a copy of the array's kind, or a refusal.
+macro_rules! same_kind {
+    ($array:expr, $kind:ident => $made:expr) => {
+        match $array {
+            Array::Bool($kind) => $made.map(Array::Bool),
+            Array::Primitive($kind) => $made.map(Array::Primitive),
+            Array::Decimal($kind) => $made.map(Array::Decimal),
+            Array::VarBinView($kind) => $made.map(Array::VarBinView),
+            Array::Constant($kind) => $made.map(Array::Constant),
+        }
+    };
+}
+
+// The same of an array that is plain.
+macro_rules! plain_kind {
+    ($array:expr, $kind:ident => $made:expr) => {
+        match $array {
+            Array::Bool($kind) => match $made {
+                Ok(made) => Ok(Array::Bool(made)),
+                Err(error) => Err(error),
+            },
+            Array::Primitive($kind) => match $made {
+                Ok(made) => Ok(Array::Primitive(made)),
+                Err(error) => Err(error),
+            },
+            Array::Decimal($kind) => match $made {
+                Ok(made) => Ok(Array::Decimal(made)),
+                Err(error) => Err(error),
+            },
+            Array::VarBinView($kind) => match $made {
+                Ok(made) => Ok(Array::VarBinView(made)),
+                Err(error) => Err(error),
+            },
+            Array::Constant(_) => unreachable!(),
+        }
+    };
+}
+
+pub(crate) use each_kind;
+pub(crate) use plain_kind;
+pub(crate) use same_kind;
+
 // A lent value or null as one of its own.
 fn owned(alloc: Global, value: Option<ValueRef<'_>>) -> Result<Option<Value>, AllocError>
     ensures { IfOk result (λ v. v ≡ option_map value_seen value.entry) }
@@ -51,13 +106,7 @@ impl Array {
     pub fn len(&self) -> usize
         ensures { result ≡ length (column_of self.now).rows }
     {
-        match self {
-            Array::Bool(array) => array.len(),
-            Array::Primitive(array) => array.len(),
-            Array::Decimal(array) => array.len(),
-            Array::VarBinView(array) => array.len(),
-            Array::Constant(array) => array.len(),
-        }
+        each_kind!(self, array => array.len())
     }
 
     /// Whether there is no row.
@@ -71,13 +120,7 @@ impl Array {
     pub fn dtype(&self) -> DType
         ensures { result ≡ (column_of self.now).dtype }
     {
-        match self {
-            Array::Bool(array) => array.dtype(),
-            Array::Primitive(array) => array.dtype(),
-            Array::Decimal(array) => array.dtype(),
-            Array::VarBinView(array) => array.dtype(),
-            Array::Constant(array) => array.dtype(),
-        }
+        each_kind!(self, array => array.dtype())
     }
 
     /// The row at a place, or none where it is null. It fits the type.
@@ -86,13 +129,7 @@ impl Array {
         ensures value { option_map value_seen result ≡ slice_index_or (column_of self.now).rows i None }
         ensures fits { IsTrue (fits_type (column_of self.now).dtype (option_map value_seen result)) }
     {
-        match self {
-            Array::Bool(array) => array.value_at(i),
-            Array::Primitive(array) => array.value_at(i),
-            Array::Decimal(array) => array.value_at(i),
-            Array::VarBinView(array) => array.value_at(i),
-            Array::Constant(array) => array.value_at(i),
-        }
+        each_kind!(self, array => array.value_at(i))
     }
 
     /// Whether the row at a place is not null.
@@ -146,12 +183,6 @@ impl Array {
     pub fn try_clone(&self, alloc: Global) -> Result<Array, AllocError>
         ensures { IfOk result (λ a. a ≡ self.now) }
     {
-        match self {
-            Array::Bool(array) => array.try_clone(alloc).map(Array::Bool),
-            Array::Primitive(array) => array.try_clone(alloc).map(Array::Primitive),
-            Array::Decimal(array) => array.try_clone(alloc).map(Array::Decimal),
-            Array::VarBinView(array) => array.try_clone(alloc).map(Array::VarBinView),
-            Array::Constant(array) => array.try_clone(alloc).map(Array::Constant),
-        }
+        same_kind!(self, array => array.try_clone(alloc))
     }
 }

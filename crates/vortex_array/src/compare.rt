@@ -11,16 +11,13 @@ ghost use Rattle.vortex_array_compare.specs.Repeated.{repeated};
 ghost use Rattle.vortex_array_compare.specs.Turned.{turned};
 ghost use Rattle.vortex_array.specs.ColumnOf.{bool_column, column_of, constant_column, decimal_column, is_plain, primitive_column};
 
-use crate::arrays::Array;
+use crate::arrays::{Array, each_kind};
+use crate::plain::{bools_of, decimals_of, primitives_of, strings_of};
 use std::alloc::{AllocError, Global};
-use vortex_array_compare::{
-    compare_decimal_value, compare_decimals, compare_list_value, compare_lists,
-    compare_number_value, compare_numbers, compare_truth_value, compare_truths, equal_answers,
-    null_answers, turned_operator,
-};
-use vortex_array_kinds::{BoolArray, ConstantArray, DecimalArray, PrimitiveArray, VarBinViewArray};
+use vortex_array_compare::{Compare, null_answers, turned_operator};
+use vortex_array_kinds::{BoolArray, ConstantArray};
 use vortex_array_types::{
-    BetweenOptions, CompareOperator, DType, Nullability, StrictComparison, ValueRef, compares,
+    BetweenOptions, CompareOperator, DType, Nullability, StrictComparison, ValueRef,
 };
 
 impl Array {
@@ -84,7 +81,7 @@ fn upper_operator(strict: StrictComparison) -> CompareOperator
     }
 }
 
-// A column compared with one that is no constant.
+// A column compared with one that is plain.
 fn compare_plain(
     alloc: Global,
     left: &Array,
@@ -98,104 +95,10 @@ fn compare_plain(
 {
     match left {
         Array::Constant(left) => compare_constant(alloc, right, left, turned_operator(operator)),
-        Array::Bool(left) => compare_with_truths(alloc, left, right, operator),
-        Array::Primitive(left) => compare_with_numbers(alloc, left, right, operator),
-        Array::Decimal(left) => compare_with_decimals(alloc, left, right, operator),
-        Array::VarBinView(left) => compare_with_lists(alloc, left, right, operator),
-    }
-}
-
-// Truth values compared with a column of their kind.
-fn compare_with_truths(
-    alloc: Global,
-    left: &BoolArray,
-    right: &Array,
-    operator: CompareOperator,
-) -> Result<BoolArray, AllocError>
-    requires same_length { length (bool_column left.now).rows ≡ length (column_of right.now).rows }
-    requires same_type { IsTrue (same_apart_from_nullability (bool_column left.now).dtype (column_of right.now).dtype) }
-    requires plain { IsTrue (is_plain right.now) }
-    ensures { IfOk result (λ a. bool_column a ≡ compared operator (bool_column left.now) (column_of right.now)) }
-{
-    match right {
-        Array::Bool(right) => compare_truths(alloc, left, right, operator),
-        Array::Primitive(_) => unreachable!(),
-        Array::Decimal(_) => unreachable!(),
-        Array::VarBinView(right) => {
-            let _ = right.dtype();
-            unreachable!()
-        }
-        Array::Constant(_) => unreachable!(),
-    }
-}
-
-// Whole numbers compared with a column of their width.
-fn compare_with_numbers(
-    alloc: Global,
-    left: &PrimitiveArray,
-    right: &Array,
-    operator: CompareOperator,
-) -> Result<BoolArray, AllocError>
-    requires same_length { length (primitive_column left.now).rows ≡ length (column_of right.now).rows }
-    requires same_type { IsTrue (same_apart_from_nullability (primitive_column left.now).dtype (column_of right.now).dtype) }
-    requires plain { IsTrue (is_plain right.now) }
-    ensures { IfOk result (λ a. bool_column a ≡ compared operator (primitive_column left.now) (column_of right.now)) }
-{
-    match right {
-        Array::Bool(_) => unreachable!(),
-        Array::Primitive(right) => compare_numbers(alloc, left, right, operator),
-        Array::Decimal(_) => unreachable!(),
-        Array::VarBinView(right) => {
-            let _ = right.dtype();
-            unreachable!()
-        }
-        Array::Constant(_) => unreachable!(),
-    }
-}
-
-// Decimals compared with a column of their kind.
-fn compare_with_decimals(
-    alloc: Global,
-    left: &DecimalArray,
-    right: &Array,
-    operator: CompareOperator,
-) -> Result<BoolArray, AllocError>
-    requires same_length { length (decimal_column left.now).rows ≡ length (column_of right.now).rows }
-    requires same_type { IsTrue (same_apart_from_nullability (decimal_column left.now).dtype (column_of right.now).dtype) }
-    requires plain { IsTrue (is_plain right.now) }
-    ensures { IfOk result (λ a. bool_column a ≡ compared operator (decimal_column left.now) (column_of right.now)) }
-{
-    match right {
-        Array::Bool(_) => unreachable!(),
-        Array::Primitive(_) => unreachable!(),
-        Array::Decimal(right) => compare_decimals(alloc, left, right, operator),
-        Array::VarBinView(right) => {
-            let _ = right.dtype();
-            unreachable!()
-        }
-        Array::Constant(_) => unreachable!(),
-    }
-}
-
-// Texts or bytes compared with a column of their kind.
-fn compare_with_lists(
-    alloc: Global,
-    left: &VarBinViewArray,
-    right: &Array,
-    operator: CompareOperator,
-) -> Result<BoolArray, AllocError>
-    requires same_length { length left.now.rows ≡ length (column_of right.now).rows }
-    requires same_type { IsTrue (same_apart_from_nullability left.now.dtype (column_of right.now).dtype) }
-    requires plain { IsTrue (is_plain right.now) }
-    ensures { IfOk result (λ a. bool_column a ≡ compared operator left.now (column_of right.now)) }
-{
-    let _ = left.dtype();
-    match right {
-        Array::Bool(_) => unreachable!(),
-        Array::Primitive(_) => unreachable!(),
-        Array::Decimal(_) => unreachable!(),
-        Array::VarBinView(right) => compare_lists(alloc, left, right, operator),
-        Array::Constant(_) => unreachable!(),
+        Array::Bool(left) => left.compare(alloc, bools_of(right), operator),
+        Array::Primitive(left) => left.compare(alloc, primitives_of(right), operator),
+        Array::Decimal(left) => left.compare(alloc, decimals_of(right), operator),
+        Array::VarBinView(left) => left.compare(alloc, strings_of(right), operator),
     }
 }
 
@@ -227,42 +130,5 @@ fn compare_value(
     requires { IsTrue (value_fits (column_of left.now).dtype (value_seen value)) }
     ensures { IfOk result (λ a. bool_column a ≡ compared operator (column_of left.now) (repeated dtype (value_seen value.entry) (length (column_of left.now).rows))) }
 {
-    match left {
-        Array::Bool(left) => compare_truth_value(alloc, left, dtype, value, operator),
-        Array::Primitive(left) => compare_number_value(alloc, left, dtype, value, operator),
-        Array::Decimal(left) => compare_decimal_value(alloc, left, dtype, value, operator),
-        Array::VarBinView(left) => compare_list_value(alloc, left, dtype, value, operator),
-        Array::Constant(left) => compare_equal_rows(alloc, left, dtype, value, operator),
-    }
-}
-
-// Equal rows compared with one value in each row.
-fn compare_equal_rows(
-    alloc: Global,
-    left: &ConstantArray,
-    dtype: DType,
-    value: ValueRef<'_>,
-    operator: CompareOperator,
-) -> Result<BoolArray, AllocError>
-    ensures { IfOk result (λ a. bool_column a ≡ compared operator (constant_column left.now) (repeated dtype (value_seen value.entry) (length (constant_column left.now).rows))) }
-{
-    match left.scalar().value_ref() {
-        Some(own) => {
-            let nullability = either_nullability(left.dtype(), dtype);
-            let answer = compares(operator, own, value);
-            equal_answers(alloc, answer, nullability, left.len())
-        }
-        None => null_answers(alloc, left.len()),
-    }
-}
-
-// Nullable where one of two types is.
-pub(crate) fn either_nullability(a: DType, b: DType) -> Nullability
-    ensures { result ≡ either (nullability a) (nullability b) }
-{
-    if a.is_nullable() || b.is_nullable() {
-        Nullability::Nullable
-    } else {
-        Nullability::NonNullable
-    }
+    each_kind!(left, left => left.compare_value(alloc, dtype, value, operator))
 }

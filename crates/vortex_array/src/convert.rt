@@ -3,11 +3,9 @@ ghost use Rattle.std.specs.Prelude.{◌≡◌, IfOk, IfErr, OnOk};
 ghost use Rattle.vortex_array.specs.ColumnOf.{column_of};
 ghost use Rattle.vortex_array_cast.specs.Casts.{IsCast, RefusesCast, cast_column};
 
-use crate::arrays::Array;
+use crate::arrays::{Array, same_kind};
 use std::alloc::Global;
-use vortex_array_cast::{
-    CastError, cast_bools, cast_constant, cast_decimals, cast_primitive, cast_texts,
-};
+use vortex_array_cast::{Cast, CastError};
 use vortex_array_types::DType;
 
 impl Array {
@@ -21,12 +19,6 @@ impl Array {
         ensures fits { OnOk result (IsCast dtype.now (column_of self.now)) }
         ensures err { IfErr result (RefusesCast dtype.now (column_of self.now)) }
     {
-        match self {
-            Array::Bool(array) => cast_bools(alloc, array, dtype).map(Array::Bool),
-            Array::Primitive(array) => cast_primitive(alloc, array, dtype).map(Array::Primitive),
-            Array::Decimal(array) => cast_decimals(alloc, array, dtype).map(Array::Decimal),
-            Array::VarBinView(array) => cast_texts(alloc, array, dtype).map(Array::VarBinView),
-            Array::Constant(array) => cast_constant(alloc, array, dtype).map(Array::Constant),
-        }
+        same_kind!(self, array => array.cast(alloc, dtype))
     }
 }

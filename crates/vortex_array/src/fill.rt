@@ -4,16 +4,14 @@ ghost use Rattle.vortex_array_types.specs.Row.{value_fits};
 ghost use Rattle.vortex_array_types.specs.Seen.{value_seen};
 ghost use Rattle.vortex_array_types.specs.Typed.{same_apart_from_nullability};
 ghost use Rattle.vortex_array_cast.specs.Filled.{filled, filled_row};
-ghost use Rattle.vortex_array.specs.ColumnOf.{bool_column, column_of, constant_column, decimal_column, is_plain as is_plain_array, primitive_column};
+ghost use Rattle.vortex_array.specs.ColumnOf.{column_of, constant_column, is_plain as is_plain_array};
 
-use crate::arrays::Array;
-use crate::single::{bytes_in, number_in, one_row, truth_in, unscaled_in};
+use crate::arrays::{Array, plain_kind};
+use crate::single::one_row;
 use crate::take::{equal_places, take_plain};
 use std::alloc::{AllocError, Global};
-use vortex_array_cast::{fill_bools, fill_decimals, fill_primitive, fill_texts};
-use vortex_array_kinds::{
-    BoolArray, ConstantArray, DecimalArray, PrimitiveArray, Validity, VarBinViewArray,
-};
+use vortex_array_cast::Fill;
+use vortex_array_kinds::{ConstantArray, Validity};
 use vortex_array_types::{DType, Scalar, ValueRef};
 
 impl Array {
@@ -45,7 +43,7 @@ fn fill_any(
     ensures plain { IfOk result (λ a. IsTrue (is_plain_array a)) }
 {
     match array {
-        Array::Constant(array) => fill_equal_rows(alloc, array, dtype, value),
+        Array::Constant(array) => fill_constant(alloc, array, dtype, value),
         _ => fill_plain(alloc, array, dtype, value),
     }
 }
@@ -63,17 +61,11 @@ fn fill_plain(
     ensures column { IfOk result (λ a. column_of a ≡ filled (record { dtype = dtype; value = Some (value_seen value.entry) }) (column_of array.now)) }
     ensures plain { IfOk result (λ a. IsTrue (is_plain_array a)) }
 {
-    match array {
-        Array::Bool(array) => fill_truths(alloc, array, dtype, value),
-        Array::Primitive(array) => fill_numbers(alloc, array, dtype, value),
-        Array::Decimal(array) => fill_unscaled(alloc, array, dtype, value),
-        Array::VarBinView(array) => fill_lists(alloc, array, dtype, value),
-        Array::Constant(_) => unreachable!(),
-    }
+    plain_kind!(array, array => array.fill_null(alloc, dtype, value))
 }
 
 // Equal rows, each the value where they are null: one of them is filled and stands in each row.
-fn fill_equal_rows(
+fn fill_constant(
     alloc: Global,
     array: &ConstantArray,
     dtype: DType,
@@ -115,77 +107,4 @@ fn repeat_row(alloc: Global, row: &Array, len: usize) -> Result<Array, AllocErro
     let first = equal_places(alloc, 0u8, len)?;
     let part = take_plain(alloc, row, first.as_slice(), &Validity::NonNullable)?;
     Ok(part)
-}
-
-// Truth values, and the value in the null rows.
-fn fill_truths(
-    alloc: Global,
-    array: &BoolArray,
-    dtype: DType,
-    value: ValueRef<'_>,
-) -> Result<Array, AllocError>
-    requires kind { IsTrue (same_apart_from_nullability (bool_column array.now).dtype dtype) }
-    requires fits { IsTrue (value_fits dtype (value_seen value)) }
-    ensures column { IfOk result (λ a. column_of a ≡ filled (record { dtype = dtype; value = Some (value_seen value.entry) }) (bool_column array.now)) }
-    ensures plain { IfOk result (λ a. IsTrue (is_plain_array a)) }
-{
-    let fill = truth_in(Some(value));
-    let full = fill_bools(alloc, array, fill, dtype.nullability())?;
-    Ok(Array::Bool(full))
-}
-
-// Whole numbers, and the value in the null rows.
-fn fill_numbers(
-    alloc: Global,
-    array: &PrimitiveArray,
-    dtype: DType,
-    value: ValueRef<'_>,
-) -> Result<Array, AllocError>
-    requires kind { IsTrue (same_apart_from_nullability (primitive_column array.now).dtype dtype) }
-    requires fits { IsTrue (value_fits dtype (value_seen value)) }
-    ensures column { IfOk result (λ a. column_of a ≡ filled (record { dtype = dtype; value = Some (value_seen value.entry) }) (primitive_column array.now)) }
-    ensures plain { IfOk result (λ a. IsTrue (is_plain_array a)) }
-{
-    let nullability = dtype.nullability();
-    let full = fill_primitive(alloc, array, number_in(Some(value)), nullability)?;
-    Ok(Array::Primitive(full))
-}
-
-// Decimals, and the value in the null rows.
-fn fill_unscaled(
-    alloc: Global,
-    array: &DecimalArray,
-    dtype: DType,
-    value: ValueRef<'_>,
-) -> Result<Array, AllocError>
-    requires kind { IsTrue (same_apart_from_nullability (decimal_column array.now).dtype dtype) }
-    requires fits { IsTrue (value_fits dtype (value_seen value)) }
-    ensures column { IfOk result (λ a. column_of a ≡ filled (record { dtype = dtype; value = Some (value_seen value.entry) }) (decimal_column array.now)) }
-    ensures plain { IfOk result (λ a. IsTrue (is_plain_array a)) }
-{
-    let nullability = dtype.nullability();
-    let full = fill_decimals(alloc, array, unscaled_in(Some(value)), nullability)?;
-    Ok(Array::Decimal(full))
-}
-
-// Texts or bytes, and the value in the null rows.
-fn fill_lists(
-    alloc: Global,
-    array: &VarBinViewArray,
-    dtype: DType,
-    value: ValueRef<'_>,
-) -> Result<Array, AllocError>
-    requires kind { IsTrue (same_apart_from_nullability array.now.dtype dtype) }
-    requires fits { IsTrue (value_fits dtype (value_seen value)) }
-    ensures column { IfOk result (λ a. column_of a ≡ filled (record { dtype = dtype; value = Some (value_seen value.entry) }) array.now) }
-    ensures plain { IfOk result (λ a. IsTrue (is_plain_array a)) }
-{
-    let _ = array.dtype();
-    match bytes_in(Some(value)) {
-        Some(fill) => match fill_texts(alloc, array, &dtype, fill) {
-            Ok(full) => Ok(Array::VarBinView(full)),
-            Err(e) => Err(e),
-        },
-        None => unreachable!(),
-    }
 }

@@ -22,9 +22,9 @@ impl Array {
         match self {
             Array::Primitive(indices) => numbers_name_rows(indices, rows),
             Array::Constant(index) => equal_rows_name_rows(index, rows),
-            Array::VarBinView(texts) => is_index_type(texts.dtype()),
             Array::Bool(_) => false,
             Array::Decimal(_) => false,
+            Array::VarBinView(_) => false,
         }
     }
 }

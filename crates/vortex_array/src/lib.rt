@@ -11,6 +11,7 @@ mod indices;
 mod like;
 mod min_max;
 mod orders;
+mod plain;
 mod select;
 mod single;
 mod take;
@@ -21,8 +22,9 @@ pub use min_max::MinMax;
 pub use sqlite_items::Boxed;
 pub use vortex_array_cast::CastError;
 pub use vortex_array_kinds::{
-    BoolArray, ConstantArray, DecimalArray, DecimalBuffer, DecimalValue, LengthMismatch,
-    PrimitiveArray, PrimitiveBuffer, PushError, Validity, VarBinViewArray, VarBinViewBuilder,
+    BoolArray, ConstantArray, DecimalArray, DecimalBuffer, Decimals, LengthMismatch, PlainArray,
+    PrimitiveArray, PrimitiveBuffer, PushError, StringKind, Strings, Validity, VarBinViewArray,
+    VarBinViewBuilder,
 };
 pub use vortex_array_predicates::{BetweenTo, CompareTo, LikePattern, LikeTo, Predicate};
 pub use vortex_array_select::{Select, Take};

@@ -3,16 +3,16 @@ ghost use Rattle.std.specs.Prelude.{◌≡◌, ◌==◌, IfOk, IsTrue, None, Som
 ghost use Rattle.vortex_array_types.specs.Row.{fits_type, nullability};
 ghost use Rattle.vortex_array_types.specs.Seen.{value_seen};
 ghost use Rattle.vortex_array_types.specs.declared.scalar.Value.TheVariants as value;
-ghost use Rattle.vortex_array_kinds.specs.ByteRows.{is_text_type};
+ghost use Rattle.vortex_array_kinds.specs.StringValues.{is_text_type};
 ghost use Rattle.vortex_array_kinds.specs.Truths.{either, liked};
 ghost use Rattle.vortex_array_compare.specs.Repeated.{repeated};
-ghost use Rattle.vortex_array.specs.ColumnOf.{bool_column, column_of, constant_column};
+ghost use Rattle.vortex_array.specs.ColumnOf.{bool_column, column_of, constant_column, string_column};
 
 use crate::arrays::Array;
-use crate::compare::either_nullability;
 use std::alloc::{AllocError, Global};
 use vortex_array_compare::{
-    equal_answers, like_pattern, like_patterns, null_answers, text_like_patterns,
+    either_nullability, equal_answers, like_pattern, like_patterns, null_answers,
+    text_like_patterns,
 };
 use vortex_array_kinds::{BoolArray, ConstantArray, VarBinViewArray};
 use vortex_array_predicates::text_matches;
@@ -70,10 +70,10 @@ fn like_each(
     texts: &Array,
     patterns: &VarBinViewArray,
 ) -> Result<BoolArray, AllocError>
-    requires same_length { length (column_of texts.now).rows ≡ length patterns.now.rows }
+    requires same_length { length (column_of texts.now).rows ≡ length (string_column patterns.now).rows }
     requires texts { IsTrue (is_text_type (column_of texts.now).dtype) }
-    requires patterns { IsTrue (is_text_type patterns.now.dtype) }
-    ensures { IfOk result (λ a. bool_column a ≡ liked (column_of texts.now) patterns.now) }
+    requires patterns { IsTrue (is_text_type (string_column patterns.now).dtype) }
+    ensures { IfOk result (λ a. bool_column a ≡ liked (column_of texts.now) (string_column patterns.now)) }
 {
     match texts {
         Array::Bool(_) => unreachable!(),
@@ -90,10 +90,10 @@ fn equal_text_like(
     text: &ConstantArray,
     patterns: &VarBinViewArray,
 ) -> Result<BoolArray, AllocError>
-    requires same_length { length (constant_column text.now).rows ≡ length patterns.now.rows }
+    requires same_length { length (constant_column text.now).rows ≡ length (string_column patterns.now).rows }
     requires texts { IsTrue (is_text_type (constant_column text.now).dtype) }
-    requires patterns { IsTrue (is_text_type patterns.now.dtype) }
-    ensures { IfOk result (λ a. bool_column a ≡ liked (constant_column text.now) patterns.now) }
+    requires patterns { IsTrue (is_text_type (string_column patterns.now).dtype) }
+    ensures { IfOk result (λ a. bool_column a ≡ liked (constant_column text.now) (string_column patterns.now)) }
 {
     let nullability = text.dtype().nullability();
     match equal_text(text) {

@@ -7,12 +7,9 @@ ghost use Rattle.vortex_array.specs.ColumnOf.{column_of};
 ghost use Rattle.vortex_array_order.specs.Asked.{ExtremesBelow};
 ghost use Rattle.vortex_array_order.specs.Extremes.{AreExtremes, GreatestOf, HasNoValue, LeastOf};
 
-use crate::arrays::Array;
+use crate::arrays::{Array, each_kind};
 use std::alloc::{AllocError, Global};
-use vortex_array_order::{
-    ExtremePlaces, decimal_extremes, equal_rows_extremes, number_extremes, text_extremes,
-    truth_extremes,
-};
+use vortex_array_order::{ExtremePlaces, Ordered};
 use vortex_array_types::{DType, Scalar, ValueRef};
 
 /// The least and the greatest value of a column, of its type without nulls.
@@ -29,13 +26,7 @@ impl Array {
     fn extreme_places(&self) -> Option<ExtremePlaces>
         ensures { ExtremesBelow (column_of self.now).rows (length (column_of self.now).rows) result }
     {
-        match self {
-            Array::Bool(array) => truth_extremes(array),
-            Array::Primitive(array) => number_extremes(array),
-            Array::Decimal(array) => decimal_extremes(array),
-            Array::VarBinView(array) => text_extremes(array),
-            Array::Constant(array) => equal_rows_extremes(array),
-        }
+        each_kind!(self, array => array.extremes())
     }
 
     // The value at a place that is not null, of the type without nulls.

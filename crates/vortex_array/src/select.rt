@@ -7,7 +7,7 @@ ghost use Rattle.vortex_array.specs.Batch.{HasRows};
 ghost use Rattle.vortex_array.specs.Head.{IsHeadOf};
 ghost use Rattle.vortex_array_select.specs.Selected.{filtered, sliced};
 
-use crate::arrays::Array;
+use crate::arrays::{Array, same_kind};
 use crate::batch::RecordBatch;
 use std::alloc::{AllocError, Global};
 use std::ops::Range;
@@ -24,28 +24,7 @@ impl Array {
     {
         let start = range.start;
         let end = range.end;
-        match self {
-            Array::Bool(array) => match array.slice(alloc, start, end) {
-                Ok(part) => Ok(Array::Bool(part)),
-                Err(e) => Err(e),
-            },
-            Array::Primitive(array) => match array.slice(alloc, start, end) {
-                Ok(part) => Ok(Array::Primitive(part)),
-                Err(e) => Err(e),
-            },
-            Array::Decimal(array) => match array.slice(alloc, start, end) {
-                Ok(part) => Ok(Array::Decimal(part)),
-                Err(e) => Err(e),
-            },
-            Array::VarBinView(array) => match array.slice(alloc, start, end) {
-                Ok(part) => Ok(Array::VarBinView(part)),
-                Err(e) => Err(e),
-            },
-            Array::Constant(array) => match array.slice(alloc, start, end) {
-                Ok(part) => Ok(Array::Constant(part)),
-                Err(e) => Err(e),
-            },
-        }
+        same_kind!(self, array => array.slice(alloc, start, end))
     }
 
     /// The rows that the mask keeps, in their order. A plain array stays one.
@@ -54,28 +33,7 @@ impl Array {
         ensures column { IfOk result (λ kept. column_of kept ≡ filtered (mask_bits mask.now) (column_of self.now)) }
         ensures plain { IfOk result (λ kept. is_plain_array kept ≡ is_plain_array self.now) }
     {
-        match self {
-            Array::Bool(array) => match array.filter(alloc, mask) {
-                Ok(kept) => Ok(Array::Bool(kept)),
-                Err(e) => Err(e),
-            },
-            Array::Primitive(array) => match array.filter(alloc, mask) {
-                Ok(kept) => Ok(Array::Primitive(kept)),
-                Err(e) => Err(e),
-            },
-            Array::Decimal(array) => match array.filter(alloc, mask) {
-                Ok(kept) => Ok(Array::Decimal(kept)),
-                Err(e) => Err(e),
-            },
-            Array::VarBinView(array) => match array.filter(alloc, mask) {
-                Ok(kept) => Ok(Array::VarBinView(kept)),
-                Err(e) => Err(e),
-            },
-            Array::Constant(array) => match array.filter(alloc, mask) {
-                Ok(kept) => Ok(Array::Constant(kept)),
-                Err(e) => Err(e),
-            },
-        }
+        same_kind!(self, array => array.filter(alloc, mask))
     }
 }
 

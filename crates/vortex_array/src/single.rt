@@ -4,7 +4,7 @@ ghost use Rattle.vortex_array_types.specs.Row.{fits_type, in_width};
 ghost use Rattle.vortex_array_types.specs.Seen.{value_seen};
 ghost use Rattle.vortex_array_types.specs.declared.types.DType.TheVariants as dtypes;
 ghost use Rattle.vortex_array_types.specs.declared.scalar.Value.TheVariants as values;
-ghost use Rattle.vortex_array_kinds.specs.ByteRows.{is_bytes_type};
+ghost use Rattle.vortex_array_kinds.specs.StringValues.{is_string_type};
 ghost use Rattle.vortex_array_kinds.specs.Kinds.{bool_column, decimal_column, numbers_of, primitive_column, ptype_of, unscaled_of};
 ghost use Rattle.vortex_array.specs.ColumnOf.{column_of, is_plain as is_plain_array};
 ghost use Rattle.vortex_array.specs.Single.{bytes_held, number_held, truth_held, unscaled_held, validity_held};
@@ -12,10 +12,10 @@ ghost use Rattle.vortex_array.specs.Single.{bytes_held, number_held, truth_held,
 use crate::arrays::Array;
 use std::alloc::{AllocError, Global};
 use vortex_array_kinds::{
-    BoolArray, DecimalArray, DecimalBuffer, PrimitiveArray, PrimitiveBuffer, PushError, Validity,
+    DecimalBuffer, Decimals, PlainArray, PrimitiveBuffer, PrimitiveWidth, PushError, Validity,
     VarBinViewBuilder,
 };
-use vortex_array_types::{DType, DecimalDType, NativeValue, Nullability, PType, Scalar, ValueRef};
+use vortex_array_types::{DType, DecimalDType, Nullability, PType, Scalar, ValueRef};
 use vortex_buffer::{BitBuffer, Buffer};
 use vortex_compute::collect_bits;
 
@@ -61,14 +61,12 @@ fn one_truth(
     ensures plain { IfOk result (λ a. IsTrue (is_plain_array a)) }
 {
     let bits = one_bit(alloc, truth_in(row))?;
-    match BoolArray::try_new(bits, validity_of(nullability, row.is_some())) {
-        Ok(array) => Ok(Array::Bool(array)),
-        Err(_) => unreachable!(),
-    }
+    let validity = validity_of(nullability, row.is_some());
+    Ok(Array::Bool(PlainArray::new(bits, validity)))
 }
 
 // The truth value of a row.
-pub(crate) fn truth_in(row: Option<ValueRef<'_>>) -> bool
+fn truth_in(row: Option<ValueRef<'_>>) -> bool
     ensures { result ≡ truth_held (option_map value_seen row.entry) }
 {
     match row {
@@ -97,14 +95,12 @@ fn one_number(
     ensures plain { IfOk result (λ a. IsTrue (is_plain_array a)) }
 {
     let values = numbers_of_one(alloc, width, number_in(row))?;
-    match PrimitiveArray::try_new(values, validity_of(nullability, row.is_some())) {
-        Ok(array) => Ok(Array::Primitive(array)),
-        Err(_) => unreachable!(),
-    }
+    let validity = validity_of(nullability, row.is_some());
+    Ok(Array::Primitive(PlainArray::new(values, validity)))
 }
 
 // The whole number of a row.
-pub(crate) fn number_in(row: Option<ValueRef<'_>>) -> i128
+fn number_in(row: Option<ValueRef<'_>>) -> i128
     ensures { result ≡ number_held (option_map value_seen row.entry) }
 {
     match row {
@@ -120,24 +116,28 @@ fn numbers_of_one(alloc: Global, width: PType, number: i128) -> Result<Primitive
     ensures width { IfOk result (λ b. ptype_of b ≡ width) }
 {
     match width {
-        PType::U8 => items_of_one(alloc, number).map(PrimitiveBuffer::U8),
-        PType::U16 => items_of_one(alloc, number).map(PrimitiveBuffer::U16),
-        PType::U32 => items_of_one(alloc, number).map(PrimitiveBuffer::U32),
-        PType::U64 => items_of_one(alloc, number).map(PrimitiveBuffer::U64),
-        PType::I8 => items_of_one(alloc, number).map(PrimitiveBuffer::I8),
-        PType::I16 => items_of_one(alloc, number).map(PrimitiveBuffer::I16),
-        PType::I32 => items_of_one(alloc, number).map(PrimitiveBuffer::I32),
-        PType::I64 => items_of_one(alloc, number).map(PrimitiveBuffer::I64),
+        PType::U8 => buffer_of_one::<u8>(alloc, number),
+        PType::U16 => buffer_of_one::<u16>(alloc, number),
+        PType::U32 => buffer_of_one::<u32>(alloc, number),
+        PType::U64 => buffer_of_one::<u64>(alloc, number),
+        PType::I8 => buffer_of_one::<i8>(alloc, number),
+        PType::I16 => buffer_of_one::<i16>(alloc, number),
+        PType::I32 => buffer_of_one::<i32>(alloc, number),
+        PType::I64 => buffer_of_one::<i64>(alloc, number),
     }
 }
 
-// One item of a native type, of its number.
-fn items_of_one<T: NativeValue>(alloc: Global, number: i128) -> Result<Buffer<T>, AllocError>
+// A buffer of one number of a native type.
+fn buffer_of_one<T: PrimitiveWidth>(
+    alloc: Global,
+    number: i128,
+) -> Result<PrimitiveBuffer, AllocError>
     requires { IsTrue (in_width T.width number) }
-    ensures { IfOk result (λ b. map T.number b ≡ number ∷ []) }
+    ensures numbers { IfOk result (λ b. numbers_of b ≡ number ∷ []) }
+    ensures width { IfOk result (λ b. ptype_of b ≡ T.width) }
 {
     match T::from_value(number) {
-        Some(item) => one_item(alloc, item),
+        Some(item) => one_item(alloc, item).map(T::into_buffer),
         None => unreachable!(),
     }
 }
@@ -162,15 +162,13 @@ fn one_decimal(
     ensures column { IfOk result (λ a. column_of a ≡ record { dtype = dtypes.Decimal digits nullability; rows = option_map value_seen row.entry ∷ [] }) }
     ensures plain { IfOk result (λ a. IsTrue (is_plain_array a)) }
 {
-    let values = unscaled_of_one(alloc, unscaled_in(row))?;
-    match DecimalArray::try_new(values, digits, validity_of(nullability, row.is_some())) {
-        Ok(array) => Ok(Array::Decimal(array)),
-        Err(_) => unreachable!(),
-    }
+    let numbers = unscaled_of_one(alloc, unscaled_in(row))?;
+    let validity = validity_of(nullability, row.is_some());
+    Ok(Array::Decimal(PlainArray::new(Decimals { numbers, digits }, validity)))
 }
 
 // The unscaled number of a row.
-pub(crate) fn unscaled_in(row: Option<ValueRef<'_>>) -> i128
+fn unscaled_in(row: Option<ValueRef<'_>>) -> i128
     ensures { result ≡ unscaled_held (option_map value_seen row.entry) }
 {
     match row {
@@ -189,7 +187,7 @@ fn unscaled_of_one(alloc: Global, number: i128) -> Result<DecimalBuffer, AllocEr
 
 // One text, one row of bytes, or null.
 fn one_text(alloc: Global, dtype: DType, row: Option<ValueRef<'_>>) -> Result<Array, AllocError>
-    requires kind { IsTrue (is_bytes_type dtype) }
+    requires kind { IsTrue (is_string_type dtype) }
     requires fits { IsTrue (fits_type dtype (option_map value_seen row)) }
     ensures column { IfOk result (λ a. column_of a ≡ record { dtype = dtype; rows = option_map value_seen row.entry ∷ [] }) }
     ensures plain { IfOk result (λ a. IsTrue (is_plain_array a)) }
@@ -203,7 +201,7 @@ fn one_text(alloc: Global, dtype: DType, row: Option<ValueRef<'_>>) -> Result<Ar
 }
 
 // The bytes of a row, of which those of a text are UTF-8.
-pub(crate) fn bytes_in<'a>(row: Option<ValueRef<'a>>) -> Option<&'a [u8]>
+fn bytes_in<'a>(row: Option<ValueRef<'a>>) -> Option<&'a [u8]>
     ensures bytes { option_copied result ≡ bytes_held (option_map value_seen row.entry) }
     ensures text { (text : List ℕ) → option_map value_seen row.entry ≡ Some (values.Utf8 text) → IsUtf8 text }
 {

@@ -9,12 +9,12 @@ ghost use Rattle.vortex_array.specs.ColumnOf.{column_of, constant_column, is_pla
 ghost use Rattle.vortex_array.specs.Index.{nulls_of_index, number_column, place_of_index};
 ghost use Rattle.vortex_array_kinds.specs.Validities.{is_as_long};
 
-use crate::arrays::Array;
+use crate::arrays::{Array, plain_kind};
 use crate::single::one_row;
 use std::alloc::{AllocError, Global};
 use vortex_array_kinds::{ConstantArray, PrimitiveArray, PrimitiveBuffer, Validity};
 use vortex_array_rows::RowIndex;
-use vortex_array_select::{Take, take_equal};
+use vortex_array_select::{Take, take_constant};
 use vortex_array_types::{DType, Scalar, ValueRef};
 use vortex_buffer::Buffer;
 
@@ -30,10 +30,7 @@ impl Array {
         match indices {
             Array::Primitive(indices) => take_by_numbers(alloc, self, indices),
             Array::Constant(index) => take_by_equal(alloc, self, index),
-            Array::VarBinView(texts) => {
-                let _bytes = texts.dtype();
-                unreachable!()
-            }
+            Array::VarBinView(_) => unreachable!(),
             Array::Bool(_) => unreachable!(),
             Array::Decimal(_) => unreachable!(),
         }
@@ -104,7 +101,7 @@ fn take_at<P: RowIndex>(
     ensures plain { IfOk result (λ part. IsTrue (is_plain_array array.now) → IsTrue (is_plain_array part)) }
 {
     match array {
-        Array::Constant(array) => take_constant(alloc, array, places, nulls),
+        Array::Constant(array) => take_constant_at(alloc, array, places, nulls),
         _ => take_plain(alloc, array, places, nulls),
     }
 }
@@ -122,29 +119,11 @@ pub(crate) fn take_plain<P: RowIndex>(
     ensures column { IfOk result (λ part. column_of part ≡ taken (index_column nulls.now (map P.place places.now)) (column_of array.now)) }
     ensures plain { IfOk result (λ part. IsTrue (is_plain_array part)) }
 {
-    match array {
-        Array::Bool(array) => match array.take(alloc, places, nulls) {
-            Ok(part) => Ok(Array::Bool(part)),
-            Err(e) => Err(e),
-        },
-        Array::Primitive(array) => match array.take(alloc, places, nulls) {
-            Ok(part) => Ok(Array::Primitive(part)),
-            Err(e) => Err(e),
-        },
-        Array::Decimal(array) => match array.take(alloc, places, nulls) {
-            Ok(part) => Ok(Array::Decimal(part)),
-            Err(e) => Err(e),
-        },
-        Array::VarBinView(array) => match array.take(alloc, places, nulls) {
-            Ok(part) => Ok(Array::VarBinView(part)),
-            Err(e) => Err(e),
-        },
-        Array::Constant(_) => unreachable!(),
-    }
+    plain_kind!(array, array => array.take(alloc, places, nulls))
 }
 
 // The rows of a constant array at places. Where a place may be null, its row is taken as a plain array of one.
-fn take_constant<P: RowIndex>(
+fn take_constant_at<P: RowIndex>(
     alloc: Global,
     array: &ConstantArray,
     places: &[P],
@@ -157,10 +136,7 @@ fn take_constant<P: RowIndex>(
     if !nulls.has_none() {
         return take_one_row(alloc, array, places, nulls);
     }
-    match take_equal(alloc, array, places, nulls) {
-        Ok(part) => Ok(Array::Constant(part)),
-        Err(e) => Err(e),
-    }
+    take_constant(alloc, array, places, nulls).map(Array::Constant)
 }
 
 // The row of a constant array wherever a place is not null, as a plain array.

@@ -1,86 +1,80 @@
--- Casts of columns of whole numbers.
-use Rattle.std.proofs.Common.{ℕ, ◌<◌, ◌≡◌, Bool, true, false, cond, List, length, get_or, map, refl, sym, ap, ◌∙◌, arith, Option, Some, None, nat_lt}
-use Rattle.std.specs.Prelude.{ℤ, pos, IsTrue, MatchOption}
-use Rattle.std.proofs.lemmas.Bool.{false≢true, ltb-true, ltb-false}
-use Rattle.vortex_array_types.specs.Row.{Column, in_width, is_nullable}
+-- Whole numbers that are written in another width, as values under a validity.
+use Rattle.std.proofs.Common.{ℕ, ◌<◌, ◌≡◌, true, List, length, get_or, map, refl, sym, ap, ◌∙◌, arith, None}
+use Rattle.std.specs.Prelude.{ℤ, pos, IsTrue}
+use Rattle.std.proofs.lemmas.List.{get_or-map, get_or_default, length-map}
+use Rattle.vortex_array_types.specs.Row.{fits_type, in_width}
 use Rattle.vortex_array_types.specs.declared.types.PType.{PType}
 use Rattle.vortex_array_types.specs.declared.types.DType.TheVariants.{Primitive}
 use Rattle.vortex_array_types.specs.declared.types.Nullability.{Nullability}
-use Rattle.vortex_array_types.specs.declared.types.Nullability.TheVariants as nulls
+use Rattle.vortex_array_types.specs.declared.types.Nullability.TheVariants.{Nullable}
+use Rattle.vortex_array_types.specs.declared.scalar.Value.{Value}
 use Rattle.vortex_array_types.specs.declared.scalar.Value.TheVariants as value
-use Rattle.vortex_array_kinds.specs.Validities.{rows_under, is_as_long, nullability_of, valid_at}
+use Rattle.vortex_array_kinds.specs.Validities.{rows_under, is_as_long, valid_at}
 use Rattle.vortex_array_kinds.specs.declared.validity.Validity.{Validity}
+use Rattle.vortex_array_kinds.proofs.RowLemmas.{length-rows}
 use Rattle.vortex_array_cast.specs.declared.errors.CastError.{CastError}
 use Rattle.vortex_array_cast.specs.declared.errors.CastError.TheVariants.{Unsupported, HasNull, DoesNotFit, OutOfMemory}
 use Rattle.vortex_array_cast.specs.Casts.{IsCast, StopsAt, RefusesCast}
-use Rattle.vortex_array_cast.specs.Lanes.{NoNull, FirstNull, FirstOutside, SameWhereValid, WithinWhereValid, RefusesNumbers, validity_with, earlier}
-use Rattle.vortex_array_cast.proofs.CastRows.{long-with, type-with, valid-with, same-rows, all-fit, nulls-fit, null-stops, value-stops, some-at}
+use Rattle.vortex_array_cast.specs.Lanes.{FirstOutside, SameWhereValid, WithinWhereValid, RefusesNumbers}
+use Rattle.vortex_array_cast.proofs.CastRows.{fit-at, fits-here, same-rows, some-at}
 
--- a column of whole numbers
-abbrev pub number_column : PType → Nullability → Validity → List ℤ → Column
-number_column p m v xs = record { dtype = Primitive p m; rows = rows_under v (map (λ n. value.Int n) xs) }
+-- numbers as values
+abbrev pub ints : List ℤ → List Value
+ints xs = map (λ n. value.Int n) xs
 
--- the first null that is refused, or that none is
-abbrev pub RefusedNull : Nullability → Validity → ℕ → Option ℕ → Type 0
-RefusedNull n v len null = MatchOption null (n ≡ nulls.NonNullable → NoNull v len) (λ i. (n ≡ nulls.NonNullable) × FirstNull v len i)
+int_at : (xs : List ℤ) (i : ℕ) → i < length xs → get_or (ints xs) i (value.Int (pos 0)) ≡ value.Int (get_or xs i (pos 0))
+int_at xs i h = get_or-map (λ n. value.Int n) xs i (pos 0) (value.Int (pos 0)) h
 
--- the same numbers where valid, under the same nulls, are the same rows
-pub number-rows : (n : Nullability) (v : Validity) (xs ys : List ℤ) → IsTrue (is_as_long v (length xs)) → (n ≡ nulls.NonNullable → NoNull v (length xs)) → SameWhereValid v xs ys
-    → rows_under (validity_with n v) (map (λ x. value.Int x) ys) ≡ rows_under v (map (λ x. value.Int x) xs)
-number-rows n v xs ys e full s = same-rows (λ x. value.Int x) v (validity_with n v) xs ys (pos 0) e (long-with n v (length ys) (rw s.long e)) s.long (valid-with n v (length xs) full) s.same
+long_ints : (v : Validity) (xs : List ℤ) → IsTrue (is_as_long v (length xs)) → IsTrue (is_as_long v (length (ints xs)))
+long_ints v xs e = rw (length-map xs (λ n. value.Int n)) e
 
--- they are cast where all lie in the width
-pub numbers-cast : (p : PType) (m : Nullability) (w : PType) (n : Nullability) (v : Validity) (xs : List ℤ) → IsTrue (is_as_long v (length xs)) → (n ≡ nulls.NonNullable → NoNull v (length xs)) → WithinWhereValid v w xs
-    → IsCast (Primitive w n) (number_column p m v xs)
-numbers-cast p m w n v xs e full s =
+-- the same numbers where valid are the same rows
+pub number-rows : (v : Validity) (xs ys : List ℤ) → IsTrue (is_as_long v (length xs)) → SameWhereValid v xs ys → rows_under v (ints ys) ≡ rows_under v (ints xs)
+number-rows v xs ys e s =
+    let n : length (ints ys) ≡ length (ints xs) = length-map ys (λ n. value.Int n) ∙ s.long ∙ sym (length-map xs (λ n. value.Int n)) in
+    same-rows v v (ints xs) (ints ys) (value.Int (pos 0)) (long_ints v xs e) (rw n (long_ints v xs e)) n (λ i l. refl)
+    (λ i l t.
+    let h : i < length xs = omega (arith, l, length-map xs (λ n. value.Int n)) in
+    int_at ys i (omega (arith, h, s.long)) ∙ ap (λ n. value.Int n) (s.same i h t) ∙ sym (int_at xs i h))
+
+fits_place : (w : PType) (v : Validity) (xs : List ℤ) (i : ℕ) → IsTrue (is_as_long v (length xs)) → i < length xs → (valid_at v i ≡ true → in_width w (get_or xs i (pos 0)) ≡ true)
+    → IsTrue (fits_type (Primitive w Nullable) (get_or (rows_under v (ints xs)) i None))
+fits_place w v xs i e l within =
+    fits-here (Primitive w Nullable) v (ints xs) i (value.Int (pos 0)) refl (long_ints v xs e) (omega (arith, l, length-map xs (λ n. value.Int n)))
+    (λ t. rw (int_at xs i l) (within t))
+
+long_rows : (v : Validity) (xs : List ℤ) → IsTrue (is_as_long v (length xs)) → length (rows_under v (ints xs)) ≡ length xs
+long_rows v xs e = length-rows v (ints xs) (long_ints v xs e) ∙ length-map xs (λ n. value.Int n)
+
+-- numbers that lie in the width are cast
+pub numbers-cast : (p : PType) (m : Nullability) (w : PType) (v : Validity) (xs : List ℤ) → IsTrue (is_as_long v (length xs)) → WithinWhereValid v w xs
+    → IsCast (Primitive w Nullable) (record { dtype = Primitive p m; rows = rows_under v (ints xs) })
+numbers-cast p m w v xs e s =
     record {
       castable = refl;
-      rows = all-fit (Primitive w n) (λ x. value.Int x) v xs (pos 0) e s.within (nulls-fit (λ k. Primitive w k) refl n v (length xs) full);
+      rows = λ i d l.
+          let h : i < length xs = omega (arith, l, long_rows v xs e) in
+          rw (get_or_default (rows_under v (ints xs)) i d None l) (fits_place w v xs i e h (s.within i h));
     }
 
--- a null is refused where every number before it lies in the width
-pub null-refused : (p : PType) (m : Nullability) (w : PType) (n : Nullability) (v : Validity) (xs : List ℤ) (row : ℕ) → IsTrue (is_as_long v (length xs)) → n ≡ nulls.NonNullable → FirstNull v (length xs) row
-    → ((j : ℕ) → j < row → valid_at v j ≡ true → in_width w (get_or xs j (pos 0)) ≡ true)
-    → StopsAt (Primitive w n) (number_column p m v xs) row false
-null-refused p m w n v xs row e without first within =
+number_stops : (p : PType) (m : Nullability) (w : PType) (v : Validity) (xs : List ℤ) (i : ℕ) → IsTrue (is_as_long v (length xs)) → FirstOutside v w xs i
+    → StopsAt (Primitive w Nullable) (record { dtype = Primitive p m; rows = rows_under v (ints xs) }) i true
+number_stops p m w v xs i e first =
+    let inside : i < length (ints xs) = omega (arith, first.below, length-map xs (λ n. value.Int n)) in
     record {
       castable = refl;
-      first = null-stops (Primitive w n) (λ x. value.Int x) v xs (pos 0) row e (ap (λ k. is_nullable (Primitive w k)) without) first (λ j l. within j l (first.before j l));
-      row = some-at (λ x. value.Int x) v xs row (pos 0) e first.below ∙ first.null;
+      first = record {
+        within = omega (arith, first.below, long_rows v xs e);
+        unfit = fit-at (Primitive w Nullable) v (ints xs) i (value.Int (pos 0)) (long_ints v xs e) inside ∙ rw (first.valid, int_at xs i first.below) first.outside;
+        before = λ j l. fits_place w v xs j e (omega (arith, l, first.below)) (first.before j l);
+      };
+      row = some-at v (ints xs) i (value.Int (pos 0)) (long_ints v xs e) inside ∙ first.valid;
     }
 
--- a number is refused where no null before it is
-pub number-refused : (p : PType) (m : Nullability) (w : PType) (n : Nullability) (v : Validity) (xs : List ℤ) (i : ℕ) → IsTrue (is_as_long v (length xs)) → FirstOutside v w xs i
-    → ((j : ℕ) → j < i → valid_at v j ≡ false → is_nullable (Primitive w n) ≡ true)
-    → StopsAt (Primitive w n) (number_column p m v xs) i true
-number-refused p m w n v xs i e first nothing =
-    record {
-      castable = refl;
-      first = value-stops (Primitive w n) (λ x. value.Int x) v xs (pos 0) i e first.below first.valid first.outside first.before nothing;
-      row = some-at (λ x. value.Int x) v xs i (pos 0) e first.below ∙ first.valid;
-    }
-
--- a number outside, or the null before it
-either-refused : (p : PType) (m : Nullability) (w : PType) (n : Nullability) (v : Validity) (xs : List ℤ) (row i : ℕ) → IsTrue (is_as_long v (length xs)) → n ≡ nulls.NonNullable → FirstNull v (length xs) row → FirstOutside v w xs i
-    → (b : Bool) → nat_lt i row ≡ b → RefusesCast (Primitive w n) (number_column p m v xs) (cond b (DoesNotFit i) (HasNull row))
-either-refused p m w n v xs row i e without null outside true l =
-    number-refused p m w n v xs i e outside (λ j b f. absurd (false≢true (sym f ∙ null.before j (omega (arith, b, ltb-true i row l)))))
-either-refused p m w n v xs row i e without null outside false l =
-    null-refused p m w n v xs row e without null (λ j b. outside.before j (omega (arith, b, ltb-false i row l)))
-
--- what is refused first
-pub refused-first : (p : PType) (m : Nullability) (w : PType) (n : Nullability) (v : Validity) (xs : List ℤ) (null : Option ℕ) (error : CastError) → IsTrue (is_as_long v (length xs)) → RefusedNull n v (length xs) null → RefusesNumbers v w xs error
-    → RefusesCast (Primitive w n) (number_column p m v xs) (earlier null error)
-refused-first p m w n v xs None Unsupported e h r = absurd r
-refused-first p m w n v xs None (HasNull i) e h r = absurd r
-refused-first p m w n v xs None (DoesNotFit i) e h r = number-refused p m w n v xs i e r (λ j b. nulls-fit (λ k. Primitive w k) refl n v (length xs) h j (omega (arith, b, r.below)))
-refused-first p m w n v xs None OutOfMemory e h r = numbers-cast p m w n v xs e h r
-refused-first p m w n v xs (Some row) Unsupported e h r = absurd r
-refused-first p m w n v xs (Some row) (HasNull i) e h r = absurd r
-refused-first p m w n v xs (Some row) (DoesNotFit i) e h r = either-refused p m w n v xs row i e h.0 h.1 r (nat_lt i row) refl
-refused-first p m w n v xs (Some row) OutOfMemory e h r = null-refused p m w n v xs row e h.0 h.1 (λ j b. r.within j (omega (arith, b, h.1.below)))
-
--- the column of numbers that are written in the width, under the same nulls
-pub number-cast-column : (p : PType) (m : Nullability) (w : PType) (n : Nullability) (v : Validity) (xs ys : List ℤ) (q : PType) → q ≡ w → IsTrue (is_as_long v (length xs)) → (n ≡ nulls.NonNullable → NoNull v (length xs)) → SameWhereValid v xs ys
-    → number_column q (nullability_of (validity_with n v)) (validity_with n v) ys ≡ record (number_column p m v xs) { dtype = Primitive w n }
-number-cast-column p m w n v xs ys q e long full s = rw (e, type-with n v, number-rows n v xs ys long full s) refl
+-- why numbers are not cast
+pub numbers-refused : (p : PType) (m : Nullability) (w : PType) (v : Validity) (xs : List ℤ) (error : CastError) → IsTrue (is_as_long v (length xs)) → RefusesNumbers v w xs error
+    → RefusesCast (Primitive w Nullable) (record { dtype = Primitive p m; rows = rows_under v (ints xs) }) error
+numbers-refused p m w v xs Unsupported e h = absurd h
+numbers-refused p m w v xs (HasNull i) e h = absurd h
+numbers-refused p m w v xs (DoesNotFit i) e h = number_stops p m w v xs i e h
+numbers-refused p m w v xs OutOfMemory e h = numbers-cast p m w v xs e h

@@ -1,13 +1,13 @@
 -- Numbers that a kernel writes in another width.
 use Rattle.std.proofs.Common.{ℕ, zero, suc, inl, inr, ◌<◌, ◌≤◌, ◌≡◌, ◌+◌, Bool, true, false, ◌&&◌, List, [], ◌∷◌, length, get_or, map, take, refl, sym, ap, ◌∙◌, arith, length-take, Option, Some, None}
-use Rattle.std.specs.Prelude.{ℤ, pos, is_some, is_none, unwrap_or, replicate, count_by, not, ◌⊎◌}
+use Rattle.std.specs.Prelude.{ℤ, pos, is_some, is_none, count_by, not, ◌⊎◌}
 use Rattle.std.specs.List.{AllZip, list_all}
 use Rattle.std.proofs.lemmas.List.{length-map, get_or-replicate}
 use Rattle.vortex_buffer.proofs.Counts.{all_counted}
 use Rattle.std.proofs.lemmas.Bool.{and_parts, cases_lt, eq-eqb, false≢true, true≢false}
 use Rattle.vortex_array_types.specs.declared.types.PType.{PType}
 use Rattle.vortex_array_types.specs.Row.{in_width}
-use Rattle.vortex_compute.specs.Answers.{MapsLanes, FailsFirst, fails_at, all_valid}
+use Rattle.vortex_compute.specs.Answers.{FailsFirst, fails_at, all_valid}
 use Rattle.vortex_array_kinds.specs.declared.validity.Validity.{Validity}
 use Rattle.vortex_array_kinds.specs.declared.validity.Validity.TheVariants.{AllValid, Bits}
 use Rattle.vortex_array_kinds.specs.Validities.{valid_at}
@@ -50,30 +50,15 @@ failed false o f = absurd (false≢true f)
 front : {X R : Type 0} (P : X → R → Type 0) (xs : List X) (answers : List R) → AllZip P (take (length answers) xs) answers → length answers ≤ length xs
 front P xs answers h = omega (arith, long-answers P (take (length answers) xs) answers h, length-take (length answers) xs)
 
--- the first that fails is the first valid number outside
-pub outside-masked : {X Y : Type 0} (number : X → ℤ) (other : Y → ℤ) (w : PType) (P : X → Option Y → Type 0) → Converts number other w P → (xs : List X) (bits : List Bool) (i : ℕ) → FailsFirst P xs bits i → FirstOutside (Bits bits) w (map number xs) i
-outside-masked number other w P law xs bits i f =
-    let inside : i < length xs = omega (arith, f.within, front P xs f.answers f.each) in
-    let here = failed (get_or bits i false) (get_or f.answers i None) f.fails in
-    record {
-      below = omega (arith, inside, length-map xs number);
-      valid = here.0;
-      outside = sym (within-at number other w P law xs f.answers f.each i f.within) ∙ here.1;
-      before = λ j l v. sym (within-at number other w P law xs f.answers f.each j (omega (arith, l, f.within))) ∙ passed bits f.answers j (f.before j l) v;
-    }
-
--- the same where every place is valid
-all-set : (n i : ℕ) → i < n → get_or (replicate n true) i false ≡ true
-all-set n i l = get_or-replicate n i true false l
-
+-- the first that fails is the first number outside, where every place is valid
 pub outside-all : {X Y : Type 0} (number : X → ℤ) (other : Y → ℤ) (w : PType) (P : X → Option Y → Type 0) → Converts number other w P → (xs : List X) (i : ℕ) → FailsFirst P xs (all_valid xs) i → FirstOutside AllValid w (map number xs) i
 outside-all number other w P law xs i f =
-    let first : FirstOutside (Bits (all_valid xs)) w (map number xs) i = outside-masked number other w P law xs (all_valid xs) i f in
+    let inside : i < length xs = omega (arith, f.within, front P xs f.answers f.each) in
     record {
-      below = first.below;
+      below = omega (arith, inside, length-map xs number);
       valid = refl;
-      outside = first.outside;
-      before = λ j l v. first.before j l (all-set (length xs) j (omega (arith, l, first.below, length-map xs number)));
+      outside = sym (within-at number other w P law xs f.answers f.each i f.within) ∙ (failed (get_or (all_valid xs) i false) (get_or f.answers i None) f.fails).1;
+      before = λ j l v. sym (within-at number other w P law xs f.answers f.each j (omega (arith, l, f.within))) ∙ passed (all_valid xs) f.answers j (f.before j l) (get_or-replicate (length xs) j true false (omega (arith, l, inside)));
     }
 
 -- every answer is the same number, which lies in the width

@@ -1,92 +1,37 @@
 -- Rows whose nulls are filled.
-use Rattle.std.proofs.Common.{ℕ, ◌<◌, ◌≡◌, Bool, true, false, cond, List, [], ◌∷◌, length, get_or, map, refl, sym, ap, ◌∙◌, arith, Some, None}
-use Rattle.std.specs.Prelude.{◌&&◌, ◌||◌, IsTrue, not, replicate}
+use Rattle.std.proofs.Common.{ℕ, zero, suc, ◌<◌, ◌≡◌, Bool, true, false, cond, List, [], ◌∷◌, length, get_or, map, refl, sym, ap, ◌∙◌, arith, Some}
+use Rattle.std.specs.Prelude.{◌&&◌, ◌||◌, IsTrue, All, not, replicate}
 use Rattle.std.specs.List.{AllZip}
 use Rattle.std.specs.Simd.Lanes.{zip2}
-use Rattle.std.proofs.lemmas.List.{ext_get_or, get_or_default, length-replicate, length-map, get_or-map, get_or-replicate}
+use Rattle.std.proofs.lemmas.List.{get_or-replicate, map-id}
 use Rattle.std.proofs.lemmas.Simd.{length-zip2, get_or-zip2}
-use Rattle.std.proofs.lemmas.Bool.Decides.{Decides-eqb}
-use Rattle.vortex_array_types.specs.declared.types.Nullability.{Nullability}
-use Rattle.vortex_array_types.specs.declared.types.Nullability.TheVariants as nulls
-use Rattle.vortex_array_types.specs.Row.{Column}
-use Rattle.vortex_array_types.specs.declared.types.DType.{DType}
 use Rattle.vortex_array_types.specs.declared.scalar.Value.{Value}
-use Rattle.vortex_array_kinds.specs.Validities.{row_of, rows_under, is_as_long, valid_at, valid_bits, nullability_of}
+use Rattle.vortex_array_kinds.specs.Validities.{has_none, row_of, rows_under, is_as_long, valid_at, valid_bits}
 use Rattle.vortex_array_kinds.specs.declared.validity.Validity.{Validity}
 use Rattle.vortex_array_kinds.specs.declared.validity.Validity.TheVariants.{NonNullable, AllValid, AllInvalid, Bits}
-use Rattle.vortex_array_kinds.proofs.RowLemmas.{length-rows-map, row-at}
-use Rattle.vortex_array_cast.specs.Filled.{filled, filled_row, filled_items, full_validity}
-
--- as many bits as rows
-pub length-valid : (v : Validity) (n : ℕ) → IsTrue (is_as_long v n) → length (valid_bits v n) ≡ n
-length-valid NonNullable n e = length-replicate n true
-length-valid AllValid n e = length-replicate n true
-length-valid AllInvalid n e = length-replicate n false
-length-valid (Bits bits) n e = (Decides-eqb (length bits) n).0 e
-
--- the bit of a row says whether it is not null
-pub valid-bit : (v : Validity) (n i : ℕ) → i < n → get_or (valid_bits v n) i false ≡ valid_at v i
-valid-bit NonNullable n i l = get_or-replicate n i true false l
-valid-bit AllValid n i l = get_or-replicate n i true false l
-valid-bit AllInvalid n i l = get_or-replicate n i false false l
-valid-bit (Bits bits) n i l = refl
+use Rattle.vortex_array_kinds.proofs.TruthRows.{cons_same, length-valid, rows-present}
+use Rattle.vortex_array_cast.specs.Filled.{filled_row, filled_items}
 
 -- as many items as before
-pub length-filled : {X : Type 0} (fill : X) (v : Validity) (xs : List X) → IsTrue (is_as_long v (length xs)) → length (filled_items fill xs (valid_bits v (length xs))) ≡ length xs
-length-filled fill v xs e = length-zip2 (λ x p. cond p x fill) xs (valid_bits v (length xs)) (sym (length-valid v (length xs) e))
+pub length-filled : {X : Type 0} (fill : X) (xs : List X) (bits : List Bool) → length bits ≡ length xs → length (filled_items fill xs bits) ≡ length xs
+length-filled fill xs bits e = length-zip2 (λ x p. cond p x fill) xs bits (sym e)
 
--- the item at a place
-pub filled-at : {X : Type 0} (fill : X) (v : Validity) (xs : List X) (i : ℕ) → IsTrue (is_as_long v (length xs)) → i < length xs
-    → get_or (filled_items fill xs (valid_bits v (length xs))) i fill ≡ cond (valid_at v i) (get_or xs i fill) fill
-filled-at fill v xs i e l =
-    let inside : i < length (valid_bits v (length xs)) = omega (arith, l, length-valid v (length xs) e) in
-    get_or-zip2 (λ x p. cond p x fill) xs (valid_bits v (length xs)) i fill false fill l inside
-    ∙ ap (λ b. cond b (get_or xs i fill) fill) (valid-bit v (length xs) i l)
+-- the item under a bit
+pub under-here : {X : Type 0} (fill : X) (xs : List X) (bits : List Bool) (i : ℕ) (x d : X) → length bits ≡ length xs → i < length xs → x ≡ cond (get_or bits i false) (get_or xs i d) fill
+    → x ≡ get_or (filled_items fill xs bits) i x
+under-here fill xs bits i x d e l h = h ∙ sym (get_or-zip2 (λ y p. cond p y fill) xs bits i d false x l (omega (arith, l, e)))
 
-filled-one : {X : Type 0} (f : X → Value) (x fill : X) (b : Bool) → row_of (f (cond b x fill)) true ≡ filled_row (Some (f fill)) (row_of (f x) b)
-filled-one f x fill true = refl
-filled-one f x fill false = refl
-
-full-long : (n : Nullability) (len : ℕ) → IsTrue (is_as_long (full_validity n) len)
-full-long nulls.NonNullable len = refl
-full-long nulls.Nullable len = refl
-
-full-valid : (n : Nullability) (i : ℕ) → valid_at (full_validity n) i ≡ true
-full-valid nulls.NonNullable i = refl
-full-valid nulls.Nullable i = refl
-
--- the type of a column without a null
-pub full-type : (n : Nullability) → nullability_of (full_validity n) ≡ n
-full-type nulls.NonNullable = refl
-full-type nulls.Nullable = refl
-
--- the rows of filled items are the filled rows
-pub filled-rows : {X : Type 0} (f : X → Value) (fill : X) (n : Nullability) (v : Validity) (xs : List X) → IsTrue (is_as_long v (length xs))
-    → rows_under (full_validity n) (map f (filled_items fill xs (valid_bits v (length xs)))) ≡ map (filled_row (Some (f fill))) (rows_under v (map f xs))
-filled-rows f fill n v xs e =
-    let ys = filled_items fill xs (valid_bits v (length xs)) in
-    let rows = rows_under v (map f xs) in
-    let w = full_validity n in
-    let long : length ys ≡ length xs = length-filled fill v xs e in
-    ext_get_or None (rows_under w (map f ys)) (map (filled_row (Some (f fill))) rows)
-    (length-rows-map f w ys (full-long n (length ys)) ∙ long ∙ sym (length-map rows (filled_row (Some (f fill))) ∙ length-rows-map f v xs e))
-    (λ i l.
-    let inside : i < length xs = omega (arith, l, long, length-rows-map f w ys (full-long n (length ys))) in
-    sym (row-at f w ys i fill (full-long n (length ys)) (omega (arith, inside, long)))
-    ∙ ap (row_of (f (get_or ys i fill))) (full-valid n i)
-    ∙ ap (λ y. row_of (f y) true) (filled-at fill v xs i e inside)
-    ∙ filled-one f (get_or xs i fill) fill (valid_at v i)
-    ∙ ap (filled_row (Some (f fill))) (row-at f v xs i fill e inside)
-    ∙ sym (get_or-map (filled_row (Some (f fill))) rows i None None (omega (arith, inside, length-rows-map f v xs e))))
+-- the bit of a row says whether it is not null
+valid_bit : (v : Validity) (n i : ℕ) → i < n → valid_at v i ≡ get_or (valid_bits v n) i false
+valid_bit NonNullable n i l = sym (get_or-replicate n i true false l)
+valid_bit AllValid n i l = sym (get_or-replicate n i true false l)
+valid_bit AllInvalid n i l = sym (get_or-replicate n i false false l)
+valid_bit (Bits bits) n i l = refl
 
 -- the item that is given for a place
 pub filled-here : {X : Type 0} (fill : X) (v : Validity) (xs : List X) (i : ℕ) (x d : X) → IsTrue (is_as_long v (length xs)) → i < length xs → x ≡ cond (valid_at v i) (get_or xs i d) fill
     → x ≡ get_or (filled_items fill xs (valid_bits v (length xs))) i x
-filled-here fill v xs i x d e l h =
-    h
-    ∙ ap (λ y. cond (valid_at v i) y fill) (get_or_default xs i d fill l)
-    ∙ sym (filled-at fill v xs i e l)
-    ∙ get_or_default (filled_items fill xs (valid_bits v (length xs))) i fill x (omega (arith, l, length-filled fill v xs e))
+filled-here fill v xs i x d e l h = under-here fill xs (valid_bits v (length xs)) i x d (length-valid v (length xs) e) l (h ∙ ap (λ b. cond b (get_or xs i d) fill) (valid_bit v (length xs) i l))
 
 -- the numbers of filled items are the filled numbers
 pub map-filled : {X Y : Type 0} (f : X → Y) (fill : X) (xs : List X) (present : List Bool) → map f (filled_items fill xs present) ≡ filled_items (f fill) (map f xs) present
@@ -95,15 +40,49 @@ map-filled f fill (x ∷ xs) [] = refl
 map-filled f fill (x ∷ xs) (true ∷ present) = ap (λ ys. f x ∷ ys) (map-filled f fill xs present)
 map-filled f fill (x ∷ xs) (false ∷ present) = ap (λ ys. f fill ∷ ys) (map-filled f fill xs present)
 
--- a column of filled items, of a type with nulls or without
-pub filled-column : {X : Type 0} (K : Nullability → DType) (f : X → Value) (fill : X) (n : Nullability) (v : Validity) (xs ys : List X) (t : DType) → IsTrue (is_as_long v (length xs)) → ys ≡ filled_items fill xs (valid_bits v (length xs))
-    → ◌≡◌ {A = Column} (record { dtype = K (nullability_of (full_validity n)); rows = rows_under (full_validity n) (map f ys) }) (filled (record { dtype = K n; value = Some (f fill) }) (record { dtype = t; rows = rows_under v (map f xs) }))
-filled-column K f fill n v xs ys t e same = rw (same, full-type n, filled-rows f fill n v xs e) refl
-
 -- without a null the items stay
 pub filled-all : {X : Type 0} (fill : X) (xs : List X) → filled_items fill xs (replicate (length xs) true) ≡ xs
 filled-all fill [] = refl
 filled-all fill (x ∷ xs) = ap (λ ys. x ∷ ys) (filled-all fill xs)
+
+pub filled-none : {X : Type 0} (fill : X) (v : Validity) (xs : List X) → has_none v ≡ true → xs ≡ filled_items fill xs (valid_bits v (length xs))
+filled-none fill NonNullable xs e = sym (filled-all fill xs)
+filled-none fill AllValid xs e = sym (filled-all fill xs)
+filled-none fill AllInvalid xs e = absurd (cc e)
+filled-none fill (Bits bits) xs e = absurd (cc e)
+
+filled_row_of : (x fill : Value) (b : Bool) → row_of (cond b x fill) true ≡ filled_row (Some fill) (row_of x b)
+filled_row_of x fill true = refl
+filled_row_of x fill false = refl
+
+filled_under : (fill : Value) (xs : List Value) (present : List Bool) → length present ≡ length xs → zip2 row_of (filled_items fill xs present) (replicate (length xs) true) ≡ map (filled_row (Some fill)) (zip2 row_of xs present)
+filled_under fill [] present e = refl
+filled_under fill (x ∷ xs) [] e = absurd (omega (arith, e))
+filled_under fill (x ∷ xs) (b ∷ present) e = cons_same _ _ _ _ (filled_row_of x fill b) (filled_under fill xs present (omega (arith, e)))
+
+rows_valid : (v : Validity) (xs : List Value) → rows_under v xs ≡ zip2 row_of xs (valid_bits v (length xs))
+rows_valid v xs = ap (rows_under v) (sym (map-id xs)) ∙ rows-present (λ x. x) v xs
+
+-- the rows of filled values are the filled rows
+pub filled-rows : (fill : Value) (v w : Validity) (xs ys : List Value) → IsTrue (is_as_long v (length xs)) → ((n : ℕ) → valid_bits w n ≡ replicate n true) → ys ≡ filled_items fill xs (valid_bits v (length xs))
+    → rows_under w ys ≡ map (filled_row (Some fill)) (rows_under v xs)
+filled-rows fill v w xs ys e full is =
+    let present = valid_bits v (length xs) in
+    let long : length present ≡ length xs = length-valid v (length xs) e in
+    rows_valid w ys
+    ∙ ap (zip2 row_of ys) (full (length ys))
+    ∙ ap (λ zs. zip2 row_of zs (replicate (length zs) true)) is
+    ∙ ap (λ n. zip2 row_of (filled_items fill xs present) (replicate n true)) (length-filled fill xs present long)
+    ∙ filled_under fill xs present long
+    ∙ ap (map (filled_row (Some fill))) (sym (rows_valid v xs))
+
+-- every filled item is what the items and the fill are
+pub all-filled : {X : Type 0} (P : X → Type 0) (fill : X) (xs : List X) (present : List Bool) → All P xs → P fill → All P (filled_items fill xs present)
+all-filled P fill [] present h p i d l = absurd (omega (arith, l))
+all-filled P fill (x ∷ xs) [] h p i d l = absurd (omega (arith, l))
+all-filled P fill (x ∷ xs) (true ∷ present) h p zero d l = h 0 d (omega arith)
+all-filled P fill (x ∷ xs) (false ∷ present) h p zero d l = p
+all-filled P fill (x ∷ xs) (b ∷ present) h p (suc i) d l = all-filled P fill xs present (λ k e m. h (suc k) e (omega (arith, m))) p i d (omega (arith, l))
 
 -- what is written for each lane is the lane
 pub written-same : {X : Type 0} (P : X → X → Type 0) (xs ys : List X) → ((x y : X) → P x y → y ≡ x) → AllZip P xs ys → ys ≡ xs
@@ -111,15 +90,6 @@ written-same P [] [] f h = refl
 written-same P [] (y ∷ ys) f h = absurd h
 written-same P (x ∷ xs) [] f h = absurd h
 written-same P (x ∷ xs) (y ∷ ys) f h = ap (λ z. z ∷ ys) (f x y h.0) ∙ ap (λ zs. x ∷ zs) (written-same P xs ys f h.1)
-
--- as many items under as many bits
-pub length-under : {X : Type 0} (fill : X) (xs : List X) (bits : List Bool) → length bits ≡ length xs → length (filled_items fill xs bits) ≡ length xs
-length-under fill xs bits e = length-zip2 (λ x p. cond p x fill) xs bits (sym e)
-
--- the item under a bit
-pub under-here : {X : Type 0} (fill : X) (xs : List X) (bits : List Bool) (i : ℕ) (x d : X) → length bits ≡ length xs → i < length xs → x ≡ cond (get_or bits i false) (get_or xs i d) fill
-    → x ≡ get_or (filled_items fill xs bits) i x
-under-here fill xs bits i x d e l h = filled-here fill (Bits bits) xs i x d ((Decides-eqb (length bits) (length xs)).1 e) l h
 
 -- bits filled with one that is not set are set where they are present and set
 pub filled-unset : (bits present : List Bool) → zip2 ◌&&◌ bits present ≡ filled_items false bits present

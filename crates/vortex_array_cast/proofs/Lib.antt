@@ -1,7 +1,8 @@
 pub mod Converted
 pub mod CastBlocks
 pub mod CastRows
-pub mod CastPlain
+pub mod NullCasts
 pub mod CastNumbers
-pub mod CastTexts
+pub mod SameCasts
 pub mod FilledRows
+pub mod PlainColumns

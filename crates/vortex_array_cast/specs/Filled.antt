@@ -2,11 +2,7 @@
 use Rattle.std.specs.Prelude.{Bool, List, map, cond, Option, Some, None}
 use Rattle.std.specs.Simd.Lanes.{zip2}
 use Rattle.vortex_array_types.specs.declared.scalar.Value.{Value}
-use Rattle.vortex_array_types.specs.declared.types.Nullability.{Nullability}
-use Rattle.vortex_array_types.specs.declared.types.Nullability.TheVariants as nulls
 use Rattle.vortex_array_types.specs.Row.{Column, TypedRow}
-use Rattle.vortex_array_kinds.specs.declared.validity.Validity.{Validity}
-use Rattle.vortex_array_kinds.specs.declared.validity.Validity.TheVariants.{NonNullable, AllValid}
 
 -- the row, or the fill where it is null
 abbrev pub filled_row : Option Value → Option Value → Option Value
@@ -20,8 +16,3 @@ filled fill c = record { dtype = fill.dtype; rows = map (filled_row fill.value) 
 -- the items, and the fill where none is present
 abbrev pub filled_items : {X : Type 0} → X → List X → List Bool → List X
 filled_items fill items present = zip2 (λ x p. cond p x fill) items present
-
--- no row is null, in a type with nulls or without
-abbrev pub full_validity : Nullability → Validity
-full_validity nulls.NonNullable = NonNullable
-full_validity nulls.Nullable = AllValid

@@ -57,10 +57,6 @@ pub record FirstNull (v : Validity) (n : ℕ) (i : ℕ) : Type 0 where
   pub null : valid_at v i ≡ false
   pub before : (j : ℕ) → j < i → valid_at v j ≡ true
 
--- the same rows are null
-pub record SameNulls (v w : Validity) (n : ℕ) : Type 0 where
-  pub same : (i : ℕ) → i < n → valid_at w i ≡ valid_at v i
-
 -- why numbers are not written in another width: the first that is valid and lies outside, or memory alone
 abbrev pub RefusesNumbers : Validity → PType → List ℤ → CastError → Type 0
 RefusesNumbers v w xs Unsupported = ⊥
@@ -73,10 +69,10 @@ abbrev pub validity_with : Nullability → Validity → Validity
 validity_with WithoutNulls v = NonNullable
 validity_with Nullable v = nullable_validity v
 
--- of a null that is refused and a refusal of a number, the one that comes first
+-- of a null that is refused and a refusal of a value, the one that comes first; that of a type comes before all
 abbrev pub earlier : Option ℕ → CastError → CastError
 earlier None e = e
-earlier (Some row) Unsupported = HasNull row
+earlier (Some row) Unsupported = Unsupported
 earlier (Some row) (HasNull i) = HasNull row
 earlier (Some row) (DoesNotFit i) = cond (nat_lt i row) (DoesNotFit i) (HasNull row)
 earlier (Some row) OutOfMemory = HasNull row

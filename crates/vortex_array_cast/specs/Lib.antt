@@ -1,4 +1,3 @@
 pub mod Casts
 pub mod Filled
 pub mod Lanes
-pub mod Texts

@@ -1,28 +1,69 @@
-// Columns of truth values, whole numbers and decimals whose null rows get a value.
-ghost use Rattle.std.specs.Prelude.{◌≡◌, IsTrue, IfOk, Some, cond, length, map};
-ghost use Rattle.vortex_array_types.specs.Row.{in_width};
-ghost use Rattle.vortex_array_types.specs.declared.scalar.Value.TheVariants as values;
-ghost use Rattle.vortex_array_types.specs.declared.types.DType.TheVariants as dtypes;
-ghost use Rattle.vortex_array_kinds.specs.Kinds.{bool_column, decimal_column, len_of, numbers_of, primitive_column, ptype_of, unscaled_of};
+// Columns whose null rows get a value, whatever their kind.
+ghost use Rattle.std.specs.Prelude.{◌≡◌, IsTrue, IfOk, Some, cond, length};
+ghost use Rattle.vortex_array_types.specs.Row.{value_fits};
+ghost use Rattle.vortex_array_types.specs.Seen.{value_seen};
+ghost use Rattle.vortex_array_types.specs.Typed.{same_apart_from_nullability};
+ghost use Rattle.vortex_array_types.specs.declared.types.Nullability.{Nullability};
+ghost use Rattle.vortex_array_types.specs.declared.types.Nullability.TheVariants.{NonNullable};
 ghost use Rattle.vortex_array_kinds.specs.Validities.{is_as_long, valid_bits};
-ghost use Rattle.vortex_array_cast.specs.Filled.{filled, filled_items, full_validity as validity_without_null};
+ghost use Rattle.vortex_array_cast.specs.Filled.{filled, filled_items};
 
 use std::alloc::{AllocError, Global};
-use vortex_array_kinds::{
-    BoolArray, DecimalArray, DecimalBuffer, DecimalValue, PrimitiveArray, PrimitiveBuffer, Validity,
-};
-use vortex_array_types::{NativeValue, Nullability};
+use vortex_array_kinds::{Kind, PlainArray, Validity, Values};
+use vortex_array_types::{DType, ValueRef};
 use vortex_buffer::{BitBuffer, Buffer};
 use vortex_compute::{IndexedSource, map_into};
 
+/// Values that are filled where they are not valid.
+pub trait FillValues: Values {
+    /// The values, and the fill, which is of their type, at the places that are not valid.
+    fn fill_values(
+        &self,
+        alloc: Global,
+        validity: &Validity,
+        fill: ValueRef<'_>,
+    ) -> Result<Self, AllocError>
+        requires long { IsTrue (is_as_long validity.now (Self.count_of self.now)) }
+        requires fits { IsTrue (value_fits (Self.type_of self.now NonNullable) (value_seen fill)) }
+        ensures same_type { IfOk result (λ made. (n : Nullability) → Self.type_of made n ≡ Self.type_of self.now n) }
+        ensures ok { IfOk result (λ made. Self.items made ≡ filled_items (value_seen fill.entry) (Self.items self.now) (valid_bits validity.now (Self.count_of self.now))) };
+}
+
+/// A kind of columns whose null rows are filled.
+pub trait Fill: Kind {
+    /// The same rows, and the value, which fits the type, in each row that is null, of this type, which differs from the
+    /// column's by its nulls alone.
+    fn fill_null(
+        &self,
+        alloc: Global,
+        dtype: DType,
+        value: ValueRef<'_>,
+    ) -> Result<Self, AllocError>
+        requires same_type { IsTrue (same_apart_from_nullability (Self.column self.now).dtype dtype) }
+        requires fits { IsTrue (value_fits dtype (value_seen value)) }
+        ensures { IfOk result (λ a. Self.column a ≡ filled (record { dtype = dtype; value = Some (value_seen value.entry) }) (Self.column self.now)) };
+}
+
+impl<V: FillValues> Fill for PlainArray<V> {
+    fn fill_null(
+        &self,
+        alloc: Global,
+        dtype: DType,
+        value: ValueRef<'_>,
+    ) -> Result<PlainArray<V>, AllocError> {
+        let filled = self.stored().fill_values(alloc, self.validity(), value)?;
+        Ok(PlainArray::new(filled, Validity::of_values(dtype.nullability())))
+    }
+}
+
 // The items, and the fill at the places that are not valid.
-fn fill_items<T: Copy>(
+pub(crate) fn fill_items<T: Copy>(
     alloc: Global,
     items: &[T],
     validity: &Validity,
     fill: T,
 ) -> Result<Buffer<T>, AllocError>
-    requires { IsTrue (is_as_long validity.now (length items.now)) }
+    requires long { IsTrue (is_as_long validity.now (length items.now)) }
     ensures { IfOk result (λ b. b ≡ filled_items fill items.now (valid_bits validity.now (length items.now))) }
 {
     match validity {
@@ -43,7 +84,7 @@ fn fill_unset<T: Copy>(
     bits: &BitBuffer,
     fill: T,
 ) -> Result<Buffer<T>, AllocError>
-    requires { length bits.now ≡ length items.now }
+    requires same_length { length bits.now ≡ length items.now }
     ensures { IfOk result (λ b. b ≡ filled_items fill items.now bits.now) }
 {
     let mut out = Vec::from_elem(alloc, fill, items.len())?;
@@ -57,7 +98,7 @@ struct FilledItems<'a, T: Copy> {
     items: &'a [T],
     bits: &'a BitBuffer,
     fill: T,
-    ghost long: { length bits.now ≡ length items.now },
+    ghost same_length: { length bits.now ≡ length items.now },
 }
 
 impl<T: Copy> IndexedSource for FilledItems<'_, T> {
@@ -82,183 +123,4 @@ fn item_or<T: Copy>(item: T, valid: bool, fill: T) -> T
     ensures { result ≡ cond valid item fill }
 {
     if valid { item } else { fill }
-}
-
-// The unscaled numbers in the widest width.
-fn widened<T: DecimalValue>(alloc: Global, items: &[T]) -> Result<Vec<i128>, AllocError>
-    ensures { IfOk result (λ v. v.items ≡ map T.unscaled items.now) }
-{
-    items
-        .iter()
-        .map(|item| item.unscaled_value())
-        .collect(alloc)
-}
-
-// The unscaled numbers in the widest width, and the fill at the places that are not valid.
-fn fill_unscaled<T: DecimalValue>(
-    alloc: Global,
-    items: &[T],
-    validity: &Validity,
-    fill: i128,
-) -> Result<DecimalBuffer, AllocError>
-    requires { IsTrue (is_as_long validity.now (length (map T.unscaled items.now))) }
-    ensures { IfOk result (λ b. unscaled_of b ≡ filled_items fill (map T.unscaled items.now) (valid_bits validity.now (length (map T.unscaled items.now)))) }
-{
-    let wide = widened(alloc, items)?;
-    let filled = fill_items(alloc, wide.as_slice(), validity, fill)?;
-    Ok(DecimalBuffer::I128(filled))
-}
-
-// The validity of a column without a null.
-fn full_validity(nullability: Nullability) -> Validity
-    ensures { result ≡ validity_without_null nullability }
-{
-    match nullability {
-        Nullability::NonNullable => Validity::NonNullable,
-        Nullability::Nullable => Validity::AllValid,
-    }
-}
-
-/// The truth values, and the fill in the null rows, of a type with nulls or without.
-pub fn fill_bools(
-    alloc: Global,
-    array: &BoolArray,
-    fill: bool,
-    nullability: Nullability,
-) -> Result<BoolArray, AllocError>
-    ensures { IfOk result (λ a. bool_column a ≡ filled (record { dtype = dtypes.Bool nullability; value = Some (values.Bool fill) }) (bool_column array.now)) }
-{
-    let bits = fill_bits(alloc, array.bits(), array.validity(), fill)?;
-    match BoolArray::try_new(bits, full_validity(nullability)) {
-        Ok(array) => Ok(array),
-        Err(_) => unreachable!(),
-    }
-}
-
-// The bits, and the fill at the places that are not valid, word by word.
-fn fill_bits(
-    alloc: Global,
-    bits: &BitBuffer,
-    validity: &Validity,
-    fill: bool,
-) -> Result<BitBuffer, AllocError>
-    requires { IsTrue (is_as_long validity.now (length bits.now)) }
-    ensures { IfOk result (λ b. b ≡ filled_items fill bits.now (valid_bits validity.now (length bits.now))) }
-{
-    let valid = validity.to_bits(alloc, bits.len())?;
-    if fill {
-        let filled = valid.not(alloc)?;
-        bits.or(alloc, &filled)
-    } else {
-        bits.and(alloc, &valid)
-    }
-}
-
-// The numbers of one width, and the fill at the places that are not valid.
-fn fill_width<T: NativeValue>(
-    alloc: Global,
-    items: &Buffer<T>,
-    validity: &Validity,
-    fill: i128,
-) -> Result<Buffer<T>, AllocError>
-    requires long { IsTrue (is_as_long validity.now (length (map T.number items.now))) }
-    requires within { IsTrue (in_width T.width fill) }
-    ensures { IfOk result (λ b. map T.number b ≡ filled_items fill (map T.number items.now) (valid_bits validity.now (length (map T.number items.now)))) }
-{
-    match T::from_value(fill) {
-        Some(item) => fill_items(alloc, items.as_slice(), validity, item),
-        None => unreachable!(),
-    }
-}
-
-// The numbers, and the fill at the places that are not valid.
-fn fill_numbers(
-    alloc: Global,
-    values: &PrimitiveBuffer,
-    validity: &Validity,
-    fill: i128,
-) -> Result<PrimitiveBuffer, AllocError>
-    requires long { IsTrue (is_as_long validity.now (len_of values.now)) }
-    requires within { IsTrue (in_width (ptype_of values.now) fill) }
-    ensures width { IfOk result (λ b. ptype_of b ≡ ptype_of values.now) }
-    ensures numbers { IfOk result (λ b. numbers_of b ≡ filled_items fill (numbers_of values.now) (valid_bits validity.now (len_of values.now))) }
-{
-    match values {
-        PrimitiveBuffer::U8(items) => {
-            fill_width(alloc, items, validity, fill).map(PrimitiveBuffer::U8)
-        }
-        PrimitiveBuffer::U16(items) => {
-            fill_width(alloc, items, validity, fill).map(PrimitiveBuffer::U16)
-        }
-        PrimitiveBuffer::U32(items) => {
-            fill_width(alloc, items, validity, fill).map(PrimitiveBuffer::U32)
-        }
-        PrimitiveBuffer::U64(items) => {
-            fill_width(alloc, items, validity, fill).map(PrimitiveBuffer::U64)
-        }
-        PrimitiveBuffer::I8(items) => {
-            fill_width(alloc, items, validity, fill).map(PrimitiveBuffer::I8)
-        }
-        PrimitiveBuffer::I16(items) => {
-            fill_width(alloc, items, validity, fill).map(PrimitiveBuffer::I16)
-        }
-        PrimitiveBuffer::I32(items) => {
-            fill_width(alloc, items, validity, fill).map(PrimitiveBuffer::I32)
-        }
-        PrimitiveBuffer::I64(items) => {
-            fill_width(alloc, items, validity, fill).map(PrimitiveBuffer::I64)
-        }
-    }
-}
-
-/// The numbers, and the fill, which lies in their width, in the null rows, of a type with nulls or without.
-pub fn fill_primitive(
-    alloc: Global,
-    array: &PrimitiveArray,
-    fill: i128,
-    nullability: Nullability,
-) -> Result<PrimitiveArray, AllocError>
-    requires { IsTrue (in_width (ptype_of array.now.values) fill) }
-    ensures { IfOk result (λ a. primitive_column a ≡ filled (record { dtype = dtypes.Primitive (ptype_of array.now.values) nullability; value = Some (values.Int fill) }) (primitive_column array.now)) }
-{
-    let numbers = fill_numbers(alloc, array.values(), array.validity(), fill)?;
-    match PrimitiveArray::try_new(numbers, full_validity(nullability)) {
-        Ok(array) => Ok(array),
-        Err(_) => unreachable!(),
-    }
-}
-
-// The unscaled numbers, and the fill at the places that are not valid.
-fn fill_decimal_numbers(
-    alloc: Global,
-    values: &DecimalBuffer,
-    validity: &Validity,
-    fill: i128,
-) -> Result<DecimalBuffer, AllocError>
-    requires { IsTrue (is_as_long validity.now (length (unscaled_of values.now))) }
-    ensures { IfOk result (λ b. unscaled_of b ≡ filled_items fill (unscaled_of values.now) (valid_bits validity.now (length (unscaled_of values.now)))) }
-{
-    match values {
-        DecimalBuffer::I8(items) => fill_unscaled(alloc, items.as_slice(), validity, fill),
-        DecimalBuffer::I16(items) => fill_unscaled(alloc, items.as_slice(), validity, fill),
-        DecimalBuffer::I32(items) => fill_unscaled(alloc, items.as_slice(), validity, fill),
-        DecimalBuffer::I64(items) => fill_unscaled(alloc, items.as_slice(), validity, fill),
-        DecimalBuffer::I128(items) => fill_unscaled(alloc, items.as_slice(), validity, fill),
-    }
-}
-
-/// The decimals, and the fill's unscaled number in the null rows, of a type with nulls or without.
-pub fn fill_decimals(
-    alloc: Global,
-    array: &DecimalArray,
-    fill: i128,
-    nullability: Nullability,
-) -> Result<DecimalArray, AllocError>
-    ensures { IfOk result (λ a. decimal_column a ≡ filled (record { dtype = dtypes.Decimal array.now.digits nullability; value = Some (values.Decimal fill) }) (decimal_column array.now)) }
-{
-    let numbers = fill_decimal_numbers(alloc, array.values(), array.validity(), fill)?;
-    match DecimalArray::try_new(numbers, array.decimal_dtype(), full_validity(nullability)) {
-        Ok(array) => Ok(array),
-        Err(_) => unreachable!(),
-    }
 }

@@ -6,29 +6,19 @@ ghost use Rattle.vortex_array_kinds.specs.declared.validity.Validity.TheVariants
 ghost use Rattle.vortex_array_cast.specs.Lanes.{CastAt, CastFrom, CastSoFar, WithinWhereValid, FirstOutside, OutsideFrom, RefusesNumbers, SameWhereValid};
 
 use crate::errors::CastError;
-use crate::native_cast::{FromNative, ToNative};
 use std::alloc::Global;
-use vortex_array_kinds::Validity;
+use vortex_array_kinds::{PrimitiveWidth, Validity, convert};
 use vortex_array_types::{NativeValue, PType};
 use vortex_buffer::{AllocError, Buffer};
-use vortex_compute::{LaneDefault, Lanes, try_map_into};
+use vortex_compute::{Lanes, try_map_into};
 
 // So many numbers are made at a time, in a room of their own that stays in the processor's cache. From there they are
 // appended, so that the answer's memory is written once.
 const BLOCK: usize = 512;
 
-// The number in another width, or none where it lies outside.
-#[inline(always)]
-fn converted<T: ToNative, U: FromNative>(item: T) -> Option<U>
-    ensures value { IfSome result (λ x. U.number x ≡ T.number item) }
-    ensures within { is_some result ≡ in_width U.width (T.number item) }
-{
-    item.to_native()
-}
-
 // Writes all numbers.
 #[inline]
-fn convert_all<T: ToNative, U: FromNative + LaneDefault>(
+fn convert_all<T: PrimitiveWidth, U: PrimitiveWidth>(
     items: &[T],
     out: &mut [U],
 ) -> Result<(), usize>
@@ -37,12 +27,12 @@ fn convert_all<T: ToNative, U: FromNative + LaneDefault>(
     ensures within { OnOk result (WithinWhereValid validities.AllValid U.width (map T.number items.now)) }
     ensures err { IfErr result (FirstOutside validities.AllValid U.width (map T.number items.now)) }
 {
-    try_map_into(&Lanes::new(items), out, |item: T| converted(item))
+    try_map_into(&Lanes::new(items), out, |item: T| convert(item))
 }
 
 // The number at a place in another width, where that is not valid maybe any other. None where it is valid and outside.
 #[inline(always)]
-fn convert_at<T: ToNative, U: FromNative + LaneDefault>(
+fn convert_at<T: PrimitiveWidth, U: PrimitiveWidth>(
     items: &[T],
     validity: &Validity,
     row: usize,
@@ -51,7 +41,7 @@ fn convert_at<T: ToNative, U: FromNative + LaneDefault>(
     ensures some { IfSome result (λ x. CastAt validity.now U.width (map T.number items.now) row (U.number x)) }
     ensures none { IfNone result (IsTrue (valid_at validity.now row && not (in_width U.width (slice_index_or (map T.number items.now) row (pos 0))))) }
 {
-    match converted(items[row]) {
+    match convert(items[row]) {
         Some(number) => Some(number),
         None => {
             if validity.is_valid(row) {
@@ -64,7 +54,7 @@ fn convert_at<T: ToNative, U: FromNative + LaneDefault>(
 }
 
 // Writes the numbers from `start` on that stand at valid places, one by one, and any others in the other places.
-fn convert_each<T: ToNative, U: FromNative + LaneDefault>(
+fn convert_each<T: PrimitiveWidth, U: PrimitiveWidth>(
     items: &[T],
     validity: &Validity,
     start: usize,
@@ -86,7 +76,7 @@ fn convert_each<T: ToNative, U: FromNative + LaneDefault>(
 // Writes the numbers from `start` on that stand at valid places, and any others in the other places. Where all of them
 // are of the width, it does not matter which places are valid.
 #[inline]
-fn convert_block<T: ToNative, U: FromNative + LaneDefault>(
+fn convert_block<T: PrimitiveWidth, U: PrimitiveWidth>(
     items: &[T],
     validity: &Validity,
     start: usize,
@@ -134,7 +124,7 @@ fn refused<T: NativeValue>(items: &[T], validity: &Validity, width: PType) -> Ca
 
 // Pushes the numbers up to `end`, which are made in the room.
 #[inline]
-fn push_block<T: ToNative, U: FromNative + LaneDefault>(
+fn push_block<T: PrimitiveWidth, U: PrimitiveWidth>(
     items: &[T],
     validity: &Validity,
     end: usize,
@@ -161,7 +151,7 @@ fn push_block<T: ToNative, U: FromNative + LaneDefault>(
 }
 
 // Pushes all numbers by blocks, which are made in the room.
-fn push_blocks<T: ToNative, U: FromNative + LaneDefault>(
+fn push_blocks<T: PrimitiveWidth, U: PrimitiveWidth>(
     items: &[T],
     validity: &Validity,
     room: &mut [U],
@@ -182,7 +172,7 @@ fn push_blocks<T: ToNative, U: FromNative + LaneDefault>(
 }
 
 // The numbers, which are made in the room.
-fn cast_blocks<T: ToNative, U: FromNative + LaneDefault>(
+fn cast_blocks<T: PrimitiveWidth, U: PrimitiveWidth>(
     alloc: Global,
     items: &[T],
     validity: &Validity,
@@ -202,7 +192,7 @@ fn cast_blocks<T: ToNative, U: FromNative + LaneDefault>(
 }
 
 /// The same number in another width at each place that is valid. Refused exactly at the first that lies outside.
-pub(crate) fn cast_items<T: ToNative, U: FromNative + LaneDefault>(
+pub(crate) fn cast_items<T: PrimitiveWidth, U: PrimitiveWidth>(
     alloc: Global,
     items: &[T],
     validity: &Validity,

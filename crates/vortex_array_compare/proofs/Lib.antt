@@ -1,7 +1,6 @@
-pub mod Sides
-pub mod TurnedRound
-pub mod Equal
-pub mod ListSides
 pub mod OrderAnswers
 pub mod Pairs
+pub mod Tested
+pub mod Equal
+pub mod TurnedRound
 pub mod Likes

@@ -42,30 +42,11 @@ accepts_turned Lte Greater = refl
 -- values the other way round stand the other way round
 cmp_turned : (a b : Value) → value_cmp b a ≡ option_map ordering_reverse (value_cmp a b)
 cmp_turned (value.Bool a) (value.Bool b) = ap (λ o. Some o) (bool_cmp_total.antisymm b a)
-cmp_turned (value.Bool a) (value.Int b) = refl
-cmp_turned (value.Bool a) (value.Decimal b) = refl
-cmp_turned (value.Bool a) (value.Utf8 b) = refl
-cmp_turned (value.Bool a) (value.Binary b) = refl
-cmp_turned (value.Int a) (value.Bool b) = refl
 cmp_turned (value.Int a) (value.Int b) = ap (λ o. Some o) (int_cmp_total.antisymm b a)
-cmp_turned (value.Int a) (value.Decimal b) = refl
-cmp_turned (value.Int a) (value.Utf8 b) = refl
-cmp_turned (value.Int a) (value.Binary b) = refl
-cmp_turned (value.Decimal a) (value.Bool b) = refl
-cmp_turned (value.Decimal a) (value.Int b) = refl
 cmp_turned (value.Decimal a) (value.Decimal b) = ap (λ o. Some o) (int_cmp_total.antisymm b a)
-cmp_turned (value.Decimal a) (value.Utf8 b) = refl
-cmp_turned (value.Decimal a) (value.Binary b) = refl
-cmp_turned (value.Utf8 a) (value.Bool b) = refl
-cmp_turned (value.Utf8 a) (value.Int b) = refl
-cmp_turned (value.Utf8 a) (value.Decimal b) = refl
 cmp_turned (value.Utf8 a) (value.Utf8 b) = ap (λ o. Some o) (nat_list_cmp_total.antisymm b a)
-cmp_turned (value.Utf8 a) (value.Binary b) = refl
-cmp_turned (value.Binary a) (value.Bool b) = refl
-cmp_turned (value.Binary a) (value.Int b) = refl
-cmp_turned (value.Binary a) (value.Decimal b) = refl
-cmp_turned (value.Binary a) (value.Utf8 b) = refl
 cmp_turned (value.Binary a) (value.Binary b) = ap (λ o. Some o) (nat_list_cmp_total.antisymm b a)
+cmp_turned a b = refl
 
 compares_at : (operator : CompareOperator) (a b : Value) (o : Option Ordering) → value_cmp a b ≡ o → compares (turned operator) b a ≡ compares operator a b
 compares_at operator a b None e =

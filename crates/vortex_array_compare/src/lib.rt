@@ -1,25 +1,19 @@
 //! Comparisons of columns of one kind, and of a column with one value: a column of truth values, null where a row is.
-//! The operator is looked at once, outside the loop, and 64 answers make a word.
+//! Two traits state once what a comparison is: of the values that a plain array keeps, and of columns.
 #![tactic(auto)]
 
-mod answering;
+mod answers;
+mod bools;
+mod compare;
+mod constants;
 mod decimals;
 mod like;
-mod lists;
-mod numbers;
 mod orders;
-mod truths;
+mod primitives;
+mod strings;
 mod turned;
-mod values;
 
-pub use decimals::{compare_decimals, compare_decimals_with};
+pub use answers::{either_nullability, equal_answers, null_answers};
+pub use compare::{Compare, CompareValues};
 pub use like::{like_pattern, like_patterns, text_like_patterns};
-pub use lists::{compare_lists, compare_lists_with};
-pub use numbers::{NativeItems, compare_numbers, compare_numbers_with};
-pub use orders::compare_orders;
-pub use truths::{compare_truths, compare_truths_with};
 pub use turned::turned_operator;
-pub use values::{
-    compare_decimal_value, compare_list_value, compare_number_value, compare_truth_value,
-    equal_answers, null_answers,
-};

@@ -5,14 +5,14 @@ ghost use Rattle.std.specs.Str.{is_utf8};
 ghost use Rattle.vortex_array_types.specs.Matches.{matches};
 ghost use Rattle.vortex_array_types.specs.declared.scalar.Value.TheVariants as value;
 ghost use Rattle.vortex_array_types.specs.declared.types.DType.TheVariants as dtype;
-ghost use Rattle.vortex_array_kinds.specs.ByteRows.{is_text_type};
-ghost use Rattle.vortex_array_kinds.specs.Kinds.{bool_column};
+ghost use Rattle.vortex_array_kinds.specs.Kinds.{bool_column, string_column};
+ghost use Rattle.vortex_array_kinds.specs.StringValues.{is_text_type};
 ghost use Rattle.vortex_array_kinds.specs.Truths.{liked};
 ghost use Rattle.vortex_array_compare.specs.Repeated.{repeated};
 
-use crate::answering::answer_column;
+use crate::answers::answer_column;
 use std::alloc::{AllocError, Global};
-use vortex_array_kinds::{BoolArray, Validity, VarBinViewArray, validity_of_rows};
+use vortex_array_kinds::{BoolArray, Validity, VarBinViewArray};
 use vortex_array_predicates::{LentPattern, text_matches};
 use vortex_array_rows::ByteLists;
 use vortex_array_types::Nullability;
@@ -170,18 +170,14 @@ pub fn like_patterns(
     texts: &VarBinViewArray,
     patterns: &VarBinViewArray,
 ) -> Result<BoolArray, AllocError>
-    requires same_length { length texts.now.rows ≡ length patterns.now.rows }
-    requires texts { IsTrue (is_text_type texts.now.dtype) }
-    requires patterns { IsTrue (is_text_type patterns.now.dtype) }
-    ensures { IfOk result (λ a. bool_column a ≡ liked texts.now patterns.now) }
+    requires same_length { length (string_column texts.now).rows ≡ length (string_column patterns.now).rows }
+    requires texts { IsTrue (is_text_type (string_column texts.now).dtype) }
+    requires patterns { IsTrue (is_text_type (string_column patterns.now).dtype) }
+    ensures { IfOk result (λ a. bool_column a ≡ liked (string_column texts.now) (string_column patterns.now)) }
 {
-    let text_parts = texts.parts();
-    let pattern_parts = patterns.parts();
-    let text_validity = validity_of_rows(alloc, texts.dtype(), text_parts.present)?;
-    let pattern_validity = validity_of_rows(alloc, patterns.dtype(), pattern_parts.present)?;
-    let bits = pair_bits(alloc, text_parts.lists, pattern_parts.lists)?;
-    let column = answer_column(alloc, bits, &text_validity, &pattern_validity)?;
-    Ok(column)
+    let bits = pair_bits(alloc, texts.strings().lists(), patterns.strings().lists())?;
+    let answers = answer_column(alloc, bits, texts.validity(), patterns.validity())?;
+    Ok(answers)
 }
 
 /// Row by row whether the text matches one pattern, null where the row is null. The type has nulls where the column's or
@@ -192,15 +188,13 @@ pub fn like_pattern(
     pattern: &str,
     nullability: Nullability,
 ) -> Result<BoolArray, AllocError>
-    requires texts { IsTrue (is_text_type texts.now.dtype) }
-    ensures { IfOk result (λ a. bool_column a ≡ liked texts.now (repeated (dtype.Utf8 nullability) (value.Utf8 pattern.now) (length texts.now.rows))) }
+    requires texts { IsTrue (is_text_type (string_column texts.now).dtype) }
+    ensures { IfOk result (λ a. bool_column a ≡ liked (string_column texts.now) (repeated (dtype.Utf8 nullability) (value.Utf8 pattern.now) (length (string_column texts.now).rows))) }
 {
-    let parts = texts.parts();
-    let pattern_validity = Validity::of_values(nullability);
-    let text_validity = validity_of_rows(alloc, texts.dtype(), parts.present)?;
-    let bits = pattern_bits(alloc, parts.lists, pattern)?;
-    let column = answer_column(alloc, bits, &text_validity, &pattern_validity)?;
-    Ok(column)
+    let nulls = Validity::of_values(nullability);
+    let bits = pattern_bits(alloc, texts.strings().lists(), pattern)?;
+    let answers = answer_column(alloc, bits, texts.validity(), &nulls)?;
+    Ok(answers)
 }
 
 /// Row by row whether one text matches the pattern, null where the row is null. The type has nulls where the column's or
@@ -211,13 +205,11 @@ pub fn text_like_patterns(
     nullability: Nullability,
     patterns: &VarBinViewArray,
 ) -> Result<BoolArray, AllocError>
-    requires patterns { IsTrue (is_text_type patterns.now.dtype) }
-    ensures { IfOk result (λ a. bool_column a ≡ liked (repeated (dtype.Utf8 nullability) (value.Utf8 text.now) (length patterns.now.rows)) patterns.now) }
+    requires patterns { IsTrue (is_text_type (string_column patterns.now).dtype) }
+    ensures { IfOk result (λ a. bool_column a ≡ liked (repeated (dtype.Utf8 nullability) (value.Utf8 text.now) (length (string_column patterns.now).rows)) (string_column patterns.now)) }
 {
-    let parts = patterns.parts();
-    let text_validity = Validity::of_values(nullability);
-    let pattern_validity = validity_of_rows(alloc, patterns.dtype(), parts.present)?;
-    let bits = text_bits(alloc, text, parts.lists)?;
-    let column = answer_column(alloc, bits, &text_validity, &pattern_validity)?;
-    Ok(column)
+    let nulls = Validity::of_values(nullability);
+    let bits = text_bits(alloc, text, patterns.strings().lists())?;
+    let answers = answer_column(alloc, bits, &nulls, patterns.validity())?;
+    Ok(answers)
 }

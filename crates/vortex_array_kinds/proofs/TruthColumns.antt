@@ -12,7 +12,7 @@ use Rattle.vortex_array_types.specs.declared.types.Nullability.{Nullability}
 use Rattle.vortex_array_types.specs.declared.scalar.Value.{Value}
 use Rattle.vortex_array_types.specs.declared.scalar.Value.TheVariants as value
 use Rattle.vortex_array_kinds.specs.Kinds.{bool_column}
-use Rattle.vortex_array_kinds.specs.Parts.{BoolParts}
+use Rattle.vortex_array_kinds.specs.Parts.{PlainParts}
 use Rattle.vortex_array_kinds.specs.Validities.{is_as_long, valid_bits, nullability_of}
 use Rattle.vortex_array_kinds.specs.Truths.{BothValid, truths, truth_row, answer_in, answers, both_true, is_true, joined_by_and, joined_by_or, joined_strictly, negated}
 use Rattle.vortex_array_kinds.specs.Known.{KnownWhere, known}
@@ -30,87 +30,87 @@ same_column s t xs ys e f = ap (λ d. column d xs) e ∙ ap (column t) f
 
 -- a column of truth values by its bits
 pub truth-column : (bits : List Bool) (v : Validity) (n : ℕ) (k : Nullability) (given : List (Option Bool)) (present : List Bool) → length bits ≡ n → nullability_of v ≡ k → valid_bits v n ≡ present → truth_rows bits present ≡ map truth_row given
-    → bool_column (record { bits = bits; validity = v }) ≡ truths k given
+    → bool_column (record { values = bits; validity = v }) ≡ truths k given
 truth-column bits v n k given present long nulls is rows =
     same_column _ _ _ _ (ap dtype.Bool nulls) (rows-present (λ b. value.Bool b) v bits ∙ ap (λ m. truth_rows bits (valid_bits v m)) long ∙ ap (truth_rows bits) is ∙ rows)
 
 -- the answers of a column of truth values by its bits
-pub answers-present : (a : BoolParts) (n : ℕ) → length a.bits ≡ n → map answer_in (truth_rows a.bits (valid_bits a.validity n)) ≡ answers (bool_column a)
-answers-present a n long = ap (λ m. map answer_in (truth_rows a.bits (valid_bits a.validity m))) (sym long) ∙ ap (map answer_in) (sym (rows-present (λ b. value.Bool b) a.validity a.bits))
+pub answers-present : (a : PlainParts (List Bool)) (n : ℕ) → length a.values ≡ n → map answer_in (truth_rows a.values (valid_bits a.validity n)) ≡ answers (bool_column a)
+answers-present a n long = ap (λ m. map answer_in (truth_rows a.values (valid_bits a.validity m))) (sym long) ∙ ap (map answer_in) (sym (rows-present (λ b. value.Bool b) a.validity a.values))
 
 -- columns of as many rows have as many bits
-pub same-bits : (a b : BoolParts) → IsTrue (is_as_long a.validity (length a.bits)) → IsTrue (is_as_long b.validity (length b.bits)) → length (bool_column a).rows ≡ length (bool_column b).rows → length a.bits ≡ length b.bits
-same-bits a b ka kb e = sym (length-rows-map (λ x. value.Bool x) a.validity a.bits ka) ∙ e ∙ length-rows-map (λ x. value.Bool x) b.validity b.bits kb
+pub same-bits : (a b : PlainParts (List Bool)) → IsTrue (is_as_long a.validity (length a.values)) → IsTrue (is_as_long b.validity (length b.values)) → length (bool_column a).rows ≡ length (bool_column b).rows → length a.values ≡ length b.values
+same-bits a b ka kb e = sym (length-rows-map (λ x. value.Bool x) a.validity a.values ka) ∙ e ∙ length-rows-map (λ x. value.Bool x) b.validity b.values kb
 
 long_at : (v : Validity) (m n : ℕ) → m ≡ n → IsTrue (is_as_long v m) → IsTrue (is_as_long v n)
 long_at v m n e k = rw (← e) k
 
 -- a conjunction by words
-pub and-column : (a b : BoolParts) (v : Validity) → IsTrue (is_as_long a.validity (length a.bits)) → IsTrue (is_as_long b.validity (length b.bits)) → length a.bits ≡ length b.bits
-    → KnownWhere (length (map not a.bits)) a.validity (map not a.bits) b.validity (map not b.bits) v
-    → bool_column (record { bits = zip2 ◌&&◌ a.bits b.bits; validity = v }) ≡ joined_by_and (bool_column a) (bool_column b)
+pub and-column : (a b : PlainParts (List Bool)) (v : Validity) → IsTrue (is_as_long a.validity (length a.values)) → IsTrue (is_as_long b.validity (length b.values)) → length a.values ≡ length b.values
+    → KnownWhere (length (map not a.values)) a.validity (map not a.values) b.validity (map not b.values) v
+    → bool_column (record { values = zip2 ◌&&◌ a.values b.values; validity = v }) ≡ joined_by_and (bool_column a) (bool_column b)
 and-column a b v ka kb e h =
-    let n : length (map not a.bits) ≡ length a.bits = length-map a.bits not in
-    let m : ℕ = length (map not a.bits) in
-    truth-column (zip2 ◌&&◌ a.bits b.bits) v m _ _ _ (length-zip2 ◌&&◌ a.bits b.bits e ∙ sym n) h.nulls h.present
-    (and-rows a.bits b.bits (valid_bits a.validity m) (valid_bits b.validity m) (sym e) (length-valid a.validity m (long_at a.validity (length a.bits) m (sym n) ka) ∙ n) (length-valid b.validity m (long_at b.validity (length b.bits) m (sym e ∙ sym n) kb) ∙ n)
-    ∙ ap (λ given. map truth_row (zip2 and3 given (map answer_in (truth_rows b.bits (valid_bits b.validity m))))) (answers-present a m (sym n))
+    let n : length (map not a.values) ≡ length a.values = length-map a.values not in
+    let m : ℕ = length (map not a.values) in
+    truth-column (zip2 ◌&&◌ a.values b.values) v m _ _ _ (length-zip2 ◌&&◌ a.values b.values e ∙ sym n) h.nulls h.present
+    (and-rows a.values b.values (valid_bits a.validity m) (valid_bits b.validity m) (sym e) (length-valid a.validity m (long_at a.validity (length a.values) m (sym n) ka) ∙ n) (length-valid b.validity m (long_at b.validity (length b.values) m (sym e ∙ sym n) kb) ∙ n)
+    ∙ ap (λ given. map truth_row (zip2 and3 given (map answer_in (truth_rows b.values (valid_bits b.validity m))))) (answers-present a m (sym n))
     ∙ ap (λ given. map truth_row (zip2 and3 (answers (bool_column a)) given)) (answers-present b m (sym e ∙ sym n)))
 
 -- a disjunction by words
-pub or-column : (a b : BoolParts) (v : Validity) → IsTrue (is_as_long a.validity (length a.bits)) → IsTrue (is_as_long b.validity (length b.bits)) → length a.bits ≡ length b.bits
-    → KnownWhere (length a.bits) a.validity a.bits b.validity b.bits v
-    → bool_column (record { bits = zip2 ◌||◌ a.bits b.bits; validity = v }) ≡ joined_by_or (bool_column a) (bool_column b)
+pub or-column : (a b : PlainParts (List Bool)) (v : Validity) → IsTrue (is_as_long a.validity (length a.values)) → IsTrue (is_as_long b.validity (length b.values)) → length a.values ≡ length b.values
+    → KnownWhere (length a.values) a.validity a.values b.validity b.values v
+    → bool_column (record { values = zip2 ◌||◌ a.values b.values; validity = v }) ≡ joined_by_or (bool_column a) (bool_column b)
 or-column a b v ka kb e h =
-    let m : ℕ = length a.bits in
-    truth-column (zip2 ◌||◌ a.bits b.bits) v m _ _ _ (length-zip2 ◌||◌ a.bits b.bits e) h.nulls h.present
-    (or-rows a.bits b.bits (valid_bits a.validity m) (valid_bits b.validity m) (sym e) (length-valid a.validity m ka) (length-valid b.validity m (long_at b.validity (length b.bits) m (sym e) kb))
-    ∙ ap (λ given. map truth_row (zip2 or3 given (map answer_in (truth_rows b.bits (valid_bits b.validity m))))) (answers-present a m refl)
+    let m : ℕ = length a.values in
+    truth-column (zip2 ◌||◌ a.values b.values) v m _ _ _ (length-zip2 ◌||◌ a.values b.values e) h.nulls h.present
+    (or-rows a.values b.values (valid_bits a.validity m) (valid_bits b.validity m) (sym e) (length-valid a.validity m ka) (length-valid b.validity m (long_at b.validity (length b.values) m (sym e) kb))
+    ∙ ap (λ given. map truth_row (zip2 or3 given (map answer_in (truth_rows b.values (valid_bits b.validity m))))) (answers-present a m refl)
     ∙ ap (λ given. map truth_row (zip2 or3 (answers (bool_column a)) given)) (answers-present b m (sym e)))
 
 -- both rows, by words
-pub strict-column : (a b : BoolParts) (v : Validity) → IsTrue (is_as_long a.validity (length a.bits)) → IsTrue (is_as_long b.validity (length b.bits)) → length a.bits ≡ length b.bits
-    → BothValid (length a.bits) a.validity b.validity v
-    → bool_column (record { bits = zip2 ◌&&◌ a.bits b.bits; validity = v }) ≡ joined_strictly (bool_column a) (bool_column b)
+pub strict-column : (a b : PlainParts (List Bool)) (v : Validity) → IsTrue (is_as_long a.validity (length a.values)) → IsTrue (is_as_long b.validity (length b.values)) → length a.values ≡ length b.values
+    → BothValid (length a.values) a.validity b.validity v
+    → bool_column (record { values = zip2 ◌&&◌ a.values b.values; validity = v }) ≡ joined_strictly (bool_column a) (bool_column b)
 strict-column a b v ka kb e h =
-    let m : ℕ = length a.bits in
-    truth-column (zip2 ◌&&◌ a.bits b.bits) v m _ _ _ (length-zip2 ◌&&◌ a.bits b.bits e) h.nulls h.present
-    (strict-rows a.bits b.bits (valid_bits a.validity m) (valid_bits b.validity m) (sym e) (length-valid a.validity m ka) (length-valid b.validity m (long_at b.validity (length b.bits) m (sym e) kb))
-    ∙ ap (λ given. map truth_row (zip2 both_true given (map answer_in (truth_rows b.bits (valid_bits b.validity m))))) (answers-present a m refl)
+    let m : ℕ = length a.values in
+    truth-column (zip2 ◌&&◌ a.values b.values) v m _ _ _ (length-zip2 ◌&&◌ a.values b.values e) h.nulls h.present
+    (strict-rows a.values b.values (valid_bits a.validity m) (valid_bits b.validity m) (sym e) (length-valid a.validity m ka) (length-valid b.validity m (long_at b.validity (length b.values) m (sym e) kb))
+    ∙ ap (λ given. map truth_row (zip2 both_true given (map answer_in (truth_rows b.values (valid_bits b.validity m))))) (answers-present a m refl)
     ∙ ap (λ given. map truth_row (zip2 both_true (answers (bool_column a)) given)) (answers-present b m (sym e)))
 
 -- a negation by words
-pub not-column : (a : BoolParts) → bool_column (record { bits = map not a.bits; validity = a.validity }) ≡ negated (bool_column a)
+pub not-column : (a : PlainParts (List Bool)) → bool_column (record { values = map not a.values; validity = a.validity }) ≡ negated (bool_column a)
 not-column a =
-    let m : ℕ = length a.bits in
-    truth-column (map not a.bits) a.validity m _ _ _ (length-map a.bits not) refl refl
-    (not-rows a.bits (valid_bits a.validity m)
+    let m : ℕ = length a.values in
+    truth-column (map not a.values) a.validity m _ _ _ (length-map a.values not) refl refl
+    (not-rows a.values (valid_bits a.validity m)
     ∙ ap (λ given. map truth_row (map (option_map not) given)) (answers-present a m refl))
 
 -- the rows that are true, by words
-pub true-column : (a : BoolParts) → zip2 ◌&&◌ a.bits (valid_bits a.validity (length a.bits)) ≡ map is_true (answers (bool_column a))
-true-column a = true-rows a.bits (valid_bits a.validity (length a.bits)) ∙ ap (map is_true) (answers-present a (length a.bits) refl)
+pub true-column : (a : PlainParts (List Bool)) → zip2 ◌&&◌ a.values (valid_bits a.validity (length a.values)) ≡ map is_true (answers (bool_column a))
+true-column a = true-rows a.values (valid_bits a.validity (length a.values)) ∙ ap (map is_true) (answers-present a (length a.values) refl)
 
 -- a conjunction that is made in steps
-pub and-made : (a b : BoolParts) (ds es : List Bool) (v : Validity) (bits : List Bool) (made : BoolParts) → IsTrue (is_as_long a.validity (length a.bits)) → IsTrue (is_as_long b.validity (length b.bits)) → length (bool_column a).rows ≡ length (bool_column b).rows
-    → ds ≡ map not a.bits → es ≡ map not b.bits → KnownWhere (length ds) a.validity ds b.validity es v → bits ≡ zip2 ◌&&◌ a.bits b.bits → made ≡ record { bits = bits; validity = v }
+pub and-made : (a b : PlainParts (List Bool)) (ds es : List Bool) (v : Validity) (bits : List Bool) (made : PlainParts (List Bool)) → IsTrue (is_as_long a.validity (length a.values)) → IsTrue (is_as_long b.validity (length b.values)) → length (bool_column a).rows ≡ length (bool_column b).rows
+    → ds ≡ map not a.values → es ≡ map not b.values → KnownWhere (length ds) a.validity ds b.validity es v → bits ≡ zip2 ◌&&◌ a.values b.values → made ≡ record { values = bits; validity = v }
     → bool_column made ≡ joined_by_and (bool_column a) (bool_column b)
 and-made a b ds es v bits made ka kb same d e known is parts =
-    let known' : KnownWhere (length (map not a.bits)) a.validity (map not a.bits) b.validity (map not b.bits) v = rw (d, e) at known in
+    let known' : KnownWhere (length (map not a.values)) a.validity (map not a.values) b.validity (map not b.values) v = rw (d, e) at known in
     rw (parts, is) (and-column a b v ka kb (same-bits a b ka kb same) known')
 
 -- a disjunction that is made in steps
-pub or-made : (a b : BoolParts) (v : Validity) (bits : List Bool) (made : BoolParts) → IsTrue (is_as_long a.validity (length a.bits)) → IsTrue (is_as_long b.validity (length b.bits)) → length (bool_column a).rows ≡ length (bool_column b).rows
-    → KnownWhere (length a.bits) a.validity a.bits b.validity b.bits v → bits ≡ zip2 ◌||◌ a.bits b.bits → made ≡ record { bits = bits; validity = v }
+pub or-made : (a b : PlainParts (List Bool)) (v : Validity) (bits : List Bool) (made : PlainParts (List Bool)) → IsTrue (is_as_long a.validity (length a.values)) → IsTrue (is_as_long b.validity (length b.values)) → length (bool_column a).rows ≡ length (bool_column b).rows
+    → KnownWhere (length a.values) a.validity a.values b.validity b.values v → bits ≡ zip2 ◌||◌ a.values b.values → made ≡ record { values = bits; validity = v }
     → bool_column made ≡ joined_by_or (bool_column a) (bool_column b)
 or-made a b v bits made ka kb same known is parts = rw (parts, is) (or-column a b v ka kb (same-bits a b ka kb same) known)
 
 -- both rows, made in steps
-pub strict-made : (a b : BoolParts) (v : Validity) (bits : List Bool) (made : BoolParts) → IsTrue (is_as_long a.validity (length a.bits)) → IsTrue (is_as_long b.validity (length b.bits)) → length (bool_column a).rows ≡ length (bool_column b).rows
-    → BothValid (length a.bits) a.validity b.validity v → bits ≡ zip2 ◌&&◌ a.bits b.bits → made ≡ record { bits = bits; validity = v }
+pub strict-made : (a b : PlainParts (List Bool)) (v : Validity) (bits : List Bool) (made : PlainParts (List Bool)) → IsTrue (is_as_long a.validity (length a.values)) → IsTrue (is_as_long b.validity (length b.values)) → length (bool_column a).rows ≡ length (bool_column b).rows
+    → BothValid (length a.values) a.validity b.validity v → bits ≡ zip2 ◌&&◌ a.values b.values → made ≡ record { values = bits; validity = v }
     → bool_column made ≡ joined_strictly (bool_column a) (bool_column b)
 strict-made a b v bits made ka kb same valid is parts = rw (parts, is) (strict-column a b v ka kb (same-bits a b ka kb same) valid)
 
 -- a negation that is made in steps
-pub not-made : (a : BoolParts) (v : Validity) (bits : List Bool) (made : BoolParts) → v ≡ a.validity → bits ≡ map not a.bits → made ≡ record { bits = bits; validity = v } → bool_column made ≡ negated (bool_column a)
+pub not-made : (a : PlainParts (List Bool)) (v : Validity) (bits : List Bool) (made : PlainParts (List Bool)) → v ≡ a.validity → bits ≡ map not a.values → made ≡ record { values = bits; validity = v } → bool_column made ≡ negated (bool_column a)
 not-made a v bits made e is parts = rw (parts, is, e) (not-column a)

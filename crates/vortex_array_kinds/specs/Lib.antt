@@ -1,8 +1,9 @@
 pub mod Parts
 pub mod Validities
 pub mod Numbers
+pub mod StringValues
+pub mod StringTypes
 pub mod Kinds
-pub mod ByteRows
 pub mod Pushed
 pub mod Truths
 pub mod Known

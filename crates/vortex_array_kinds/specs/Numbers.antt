@@ -2,10 +2,12 @@
 use Rattle.std.specs.Prelude.{ℕ, ℤ, pos, List, map, length}
 use Rattle.vortex_array_types.specs.declared.types.PType.{PType}
 use Rattle.vortex_array_types.specs.declared.types.PType.TheVariants as width
-use Rattle.vortex_array_kinds.specs.declared.primitive.PrimitiveBuffer.{PrimitiveBuffer}
-use Rattle.vortex_array_kinds.specs.declared.primitive.PrimitiveBuffer.TheVariants as whole
-use Rattle.vortex_array_kinds.specs.declared.decimal.DecimalBuffer.{DecimalBuffer}
-use Rattle.vortex_array_kinds.specs.declared.decimal.DecimalBuffer.TheVariants as unscaled
+use Rattle.vortex_array_kinds.specs.declared.primitives.PrimitiveBuffer.{PrimitiveBuffer}
+use Rattle.vortex_array_kinds.specs.declared.primitives.PrimitiveBuffer.TheVariants as whole
+use Rattle.vortex_array_kinds.specs.declared.decimals.DecimalBuffer.{DecimalBuffer}
+use Rattle.vortex_array_kinds.specs.declared.decimals.DecimalBuffer.TheVariants as unscaled
+use Rattle.vortex_array_kinds.specs.declared.widths.WideNumber.{WideNumber}
+use Rattle.vortex_array_kinds.specs.declared.widths.WideNumber.TheVariants.{Signed, Unsigned}
 
 -- the numbers of a buffer
 abbrev pub numbers_of : PrimitiveBuffer → List ℤ
@@ -32,6 +34,11 @@ ptype_of (whole.I8 b) = width.I8
 ptype_of (whole.I16 b) = width.I16
 ptype_of (whole.I32 b) = width.I32
 ptype_of (whole.I64 b) = width.I64
+
+-- the number of 64 bits, with a sign or without
+abbrev pub wide_number : WideNumber → ℤ
+wide_number (Signed n) = n
+wide_number (Unsigned n) = pos n
 
 -- the unscaled numbers of a buffer
 abbrev pub unscaled_of : DecimalBuffer → List ℤ

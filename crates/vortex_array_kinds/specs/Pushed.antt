@@ -1,10 +1,14 @@
 -- Which rows a column of texts or bytes takes.
-use Rattle.std.specs.Prelude.{ℕ, IsTrue, IsFalse, List, Option, Some, None, IsUtf8}
+use Rattle.std.specs.Prelude.{ℕ, Bool, IsTrue, IsFalse, List, [], Option, Some, None, IsUtf8}
 use Rattle.vortex_array_types.specs.Row.{is_nullable}
 use Rattle.vortex_array_types.specs.declared.types.DType.{DType}
-use Rattle.vortex_array_kinds.specs.ByteRows.{is_text_type}
-use Rattle.vortex_array_kinds.specs.declared.var_bin.PushError.{PushError}
-use Rattle.vortex_array_kinds.specs.declared.var_bin.PushError.TheVariants.{WrongType, NotUtf8, OutOfMemory}
+use Rattle.vortex_array_types.specs.declared.types.Nullability.{Nullability}
+use Rattle.vortex_array_types.specs.declared.types.Nullability.TheVariants as nulls
+use Rattle.vortex_array_kinds.specs.StringValues.{is_text_type}
+use Rattle.vortex_array_kinds.specs.declared.validity.Validity.{Validity}
+use Rattle.vortex_array_kinds.specs.declared.validity.Validity.TheVariants.{NonNullable, Bits}
+use Rattle.vortex_array_kinds.specs.declared.builder.PushError.{PushError}
+use Rattle.vortex_array_kinds.specs.declared.builder.PushError.TheVariants.{WrongType, NotUtf8, OutOfMemory}
 
 -- null in a type with nulls; in a type of texts UTF-8
 abbrev pub Admits : DType → Option (List ℕ) → Type 0
@@ -18,3 +22,13 @@ Refuses t None NotUtf8 = ⊥
 Refuses t (Some bytes) WrongType = ⊥
 Refuses t (Some bytes) NotUtf8 = IsTrue (is_text_type t) × (¬ IsUtf8 bytes)
 Refuses t row OutOfMemory = Admits t row
+
+-- in a type with nulls, for each row whether it is present: of no row yet
+abbrev pub no_row : Nullability → Option (List Bool)
+no_row nulls.NonNullable = None
+no_row nulls.Nullable = Some []
+
+-- the validity of the rows so far
+abbrev pub validity_so_far : Option (List Bool) → Validity
+validity_so_far None = NonNullable
+validity_so_far (Some bits) = Bits bits

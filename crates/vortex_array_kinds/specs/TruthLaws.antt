@@ -1,11 +1,13 @@
--- What a call of three values answers of one row: what a filter's truth is for that row.
-use Rattle.std.specs.Prelude.{◌≡◌, ◌<◌, ℕ, Bool, not, length, Option, None, option_map, slice_index_or}
+-- What a call of three values answers of one row: the truth of a filter for that row.
+use Rattle.std.specs.Prelude.{◌≡◌, ◌<◌, ℕ, Bool, List, length, Option, None, replicate, slice_index_or}
 use Rattle.vortex_buffer.specs.declared.compare_operator.CompareOperator.{CompareOperator}
 use Rattle.vortex_array_types.specs.declared.filter.BetweenOptions.{BetweenOptions}
+use Rattle.vortex_array_types.specs.declared.filter.Operand.{Operand}
+use Rattle.vortex_array_types.specs.declared.filter.Operand.TheVariants.{Column as Named, Constant}
+use Rattle.vortex_array_types.specs.declared.filter.Filter.{Filter, Compare, Between, Like, Not, And, Or}
 use Rattle.vortex_array_types.specs.declared.scalar.Value.{Value}
-use Rattle.vortex_array_types.specs.Order.{compares}
 use Rattle.vortex_array_types.specs.Row.{Column}
-use Rattle.vortex_array_types.specs.Truth.{and3, or3, both, all_three, is_like, lies_between}
+use Rattle.vortex_array_types.specs.Truth.{Cells, truth}
 use Rattle.vortex_array_kinds.specs.Truths.{answers, bounded, compared, joined_by_and, joined_by_or, liked, negated}
 
 -- row i of a column
@@ -16,28 +18,45 @@ row_at c i = slice_index_or c.rows i None
 abbrev pub answer_at : Column → ℕ → Option Bool
 answer_at c i = slice_index_or (answers c) i None
 
--- answer i of a comparison compares the rows i
+-- columns of n rows, by their names
+pub record Columns (n : ℕ) : Type 0 where
+  pub of : List ℕ → Column
+  pub long : (name : List ℕ) → length (of name).rows ≡ n
+
+-- row i of them
+abbrev pub cells_at : {n : ℕ} → Columns n → ℕ → Cells
+cells_at columns i name = row_at (columns.of name) i
+
+-- the column with the operand's name, or the constant in each row
+abbrev pub operand_column : {n : ℕ} → Columns n → Operand → Column
+operand_column columns (Named name) = columns.of name
+operand_column {n} columns (Constant scalar) = record { dtype = scalar.dtype; rows = replicate n scalar.value }
+
+-- a comparison of two operands answers for each row as the filter that compares them
 abbrev pub ComparedByRow : Type 0
-ComparedByRow = (operator : CompareOperator) (a b : Column) (i : ℕ) → i < length a.rows → i < length b.rows
-    → answer_at (compared operator a b) i ≡ both (compares operator) (row_at a i) (row_at b i)
+ComparedByRow = (n : ℕ) (columns : Columns n) (i : ℕ) → i < n → (operator : CompareOperator) (x y : Operand)
+    → answer_at (compared operator (operand_column columns x) (operand_column columns y)) i ≡ truth (cells_at columns i) (Compare operator x y)
 
--- answer i of between bounds the row i by the rows i of the bounds
+-- between answers for each row as the filter that bounds
 abbrev pub BoundedByRow : Type 0
-BoundedByRow = (options : BetweenOptions) (x lower upper : Column) (i : ℕ) → i < length x.rows → i < length lower.rows → i < length upper.rows
-    → answer_at (bounded options x lower upper) i ≡ all_three (lies_between options) (row_at x i) (row_at lower i) (row_at upper i)
+BoundedByRow = (n : ℕ) (columns : Columns n) (i : ℕ) → i < n → (options : BetweenOptions) (x lower upper : Operand)
+    → answer_at (bounded options (operand_column columns x) (operand_column columns lower) (operand_column columns upper)) i ≡ truth (cells_at columns i) (Between options x lower upper)
 
--- answer i of like matches the rows i
+-- like answers for each row as the filter that matches
 abbrev pub LikedByRow : Type 0
-LikedByRow = (a pattern : Column) (i : ℕ) → i < length a.rows → i < length pattern.rows → answer_at (liked a pattern) i ≡ both is_like (row_at a i) (row_at pattern i)
+LikedByRow = (n : ℕ) (columns : Columns n) (i : ℕ) → i < n → (x pattern : Operand)
+    → answer_at (liked (operand_column columns x) (operand_column columns pattern)) i ≡ truth (cells_at columns i) (Like x pattern)
 
--- answer i of a conjunction joins the answers i
+-- where two columns answer for a row as two filters do, their conjunction answers as the filter that joins these
 abbrev pub AndByRow : Type 0
-AndByRow = (a b : Column) (i : ℕ) → i < length a.rows → i < length b.rows → answer_at (joined_by_and a b) i ≡ and3 (answer_at a i) (answer_at b i)
+AndByRow = (cells : Cells) (f g : Filter) (a b : Column) (i : ℕ) → i < length a.rows → i < length b.rows → answer_at a i ≡ truth cells f → answer_at b i ≡ truth cells g
+    → answer_at (joined_by_and a b) i ≡ truth cells (And f g)
 
--- answer i of a disjunction joins the answers i
+-- and so their disjunction
 abbrev pub OrByRow : Type 0
-OrByRow = (a b : Column) (i : ℕ) → i < length a.rows → i < length b.rows → answer_at (joined_by_or a b) i ≡ or3 (answer_at a i) (answer_at b i)
+OrByRow = (cells : Cells) (f g : Filter) (a b : Column) (i : ℕ) → i < length a.rows → i < length b.rows → answer_at a i ≡ truth cells f → answer_at b i ≡ truth cells g
+    → answer_at (joined_by_or a b) i ≡ truth cells (Or f g)
 
--- answer i of a negation turns the answer i over
+-- where a column answers for a row as a filter does, its negation answers as the filter that negates it
 abbrev pub NegatedByRow : Type 0
-NegatedByRow = (a : Column) (i : ℕ) → i < length a.rows → answer_at (negated a) i ≡ option_map not (answer_at a i)
+NegatedByRow = (cells : Cells) (f : Filter) (a : Column) (i : ℕ) → i < length a.rows → answer_at a i ≡ truth cells f → answer_at (negated a) i ≡ truth cells (Not f)

@@ -6,7 +6,6 @@ ghost use Rattle.vortex_array_kinds.specs.Validities.{is_as_long, nullability_of
 ghost use Rattle.vortex_array_kinds.specs.declared.validity.Validity.TheVariants.{Bits};
 ghost use Rattle.vortex_array_types.specs.declared.types.Nullability.TheVariants.{Nullable};
 
-use crate::bools::BoolArray;
 use crate::validity::Validity;
 use std::alloc::{AllocError, Global};
 use vortex_array_types::Nullability;
@@ -106,17 +105,4 @@ fn joined_bits(alloc: Global, left: &BitBuffer, right: &BitBuffer) -> Result<Val
 {
     let bits = left.and(alloc, right)?;
     Ok(Validity::Bits(bits))
-}
-
-impl BoolArray {
-    /// A column of these bits, and of a validity that is as long.
-    pub fn from_parts(bits: BitBuffer, validity: Validity) -> BoolArray
-        requires { IsTrue (is_as_long validity (length bits)) }
-        ensures { result ≡ record { bits = bits; validity = validity } }
-    {
-        match BoolArray::try_new(bits, validity) {
-            Ok(array) => array,
-            Err(_) => unreachable!(),
-        }
-    }
 }

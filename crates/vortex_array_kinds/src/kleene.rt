@@ -9,11 +9,12 @@ ghost use Rattle.vortex_array_kinds.specs.Truths.{answers, either, is_true, join
 ghost use Rattle.vortex_array_kinds.specs.Validities.{is_as_long, nullability_of, valid_bits};
 
 use crate::bools::BoolArray;
+use crate::plain::PlainArray;
 use crate::validity::Validity;
 use std::alloc::{AllocError, Global};
 use vortex_buffer::{BitBuffer, Mask};
 
-impl BoolArray {
+impl PlainArray<BitBuffer> {
     /// Row by row the conjunction in three values: false where a row is false, else null where a row is null, else true.
     pub fn kleene_and(&self, alloc: Global, other: &BoolArray) -> Result<BoolArray, AllocError>
         requires same_length { length (bool_column self.now).rows ≡ length (bool_column other.now).rows }
@@ -25,7 +26,7 @@ impl BoolArray {
         let right_decides = other.bits().not(alloc)?;
         let validity = known_where(alloc, left, &left_decides, right, &right_decides)?;
         let bits = self.bits().and(alloc, other.bits())?;
-        Ok(BoolArray::from_parts(bits, validity))
+        Ok(PlainArray::new(bits, validity))
     }
 
     /// Row by row the disjunction in three values: true where a row is true, else null where a row is null, else false.
@@ -37,7 +38,7 @@ impl BoolArray {
         let right = other.validity();
         let validity = known_where(alloc, left, self.bits(), right, other.bits())?;
         let bits = self.bits().or(alloc, other.bits())?;
-        Ok(BoolArray::from_parts(bits, validity))
+        Ok(PlainArray::new(bits, validity))
     }
 
     /// Row by row whether both are true, and null where a row is null, be the other false or not.
@@ -49,7 +50,7 @@ impl BoolArray {
         let right = other.validity();
         let validity = left.both(alloc, right, self.bits().len())?;
         let bits = self.bits().and(alloc, other.bits())?;
-        Ok(BoolArray::from_parts(bits, validity))
+        Ok(PlainArray::new(bits, validity))
     }
 
     /// Row by row the negation. Null stays null.
@@ -58,7 +59,7 @@ impl BoolArray {
     {
         let validity = self.validity().try_clone(alloc)?;
         let bits = self.bits().not(alloc)?;
-        Ok(BoolArray::from_parts(bits, validity))
+        Ok(PlainArray::new(bits, validity))
     }
 
     /// The rows that are true, and not null.

@@ -3,22 +3,30 @@
 #![tactic(auto)]
 
 mod bools;
-mod constant;
-mod decimal;
+mod builder;
+mod constants;
+mod decimals;
 mod joined;
 mod kleene;
 mod laws;
-mod primitive;
+mod plain;
+mod primitives;
+mod strings;
 mod validity;
-mod var_bin;
+mod values;
+mod widths;
 
 pub use bools::BoolArray;
-pub use constant::ConstantArray;
-pub use decimal::{DecimalArray, DecimalBuffer, DecimalValue};
+pub use builder::{PushError, VarBinViewBuilder};
+pub use constants::ConstantArray;
+pub use decimals::{DecimalArray, DecimalBuffer, DecimalWidth, Decimals};
 pub use laws::{
     bounded_by_row, compared_by_row, joined_by_and_by_row, joined_by_or_by_row, liked_by_row,
     negated_by_row,
 };
-pub use primitive::{PrimitiveArray, PrimitiveBuffer};
+pub use plain::PlainArray;
+pub use primitives::{PrimitiveArray, PrimitiveBuffer};
+pub use strings::{StringKind, Strings, VarBinViewArray};
 pub use validity::{LengthMismatch, Validity};
-pub use var_bin::{ByteParts, PushError, VarBinViewArray, VarBinViewBuilder, validity_of_rows};
+pub use values::{Kind, Values};
+pub use widths::{PrimitiveWidth, WideNumber, convert};

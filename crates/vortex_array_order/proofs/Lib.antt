@@ -2,7 +2,6 @@ pub mod OrderLaws
 pub mod ExtremeSteps
 pub mod NullRows
 pub mod UnsetFirst
-pub mod Standings
-pub mod TextRows
-pub mod EqualRows
+pub mod RowsUnder
+pub mod ConstantRows
 pub mod ExtremeValues

@@ -1,55 +1,52 @@
 -- How many bits that are not set come first, told by how many are set.
-use Rattle.std.proofs.Common.{ℕ, zero, suc, ◌<◌, ◌≡◌, ◌+◌, ◌-◌, cond, Bool, true, false, List, [], ◌∷◌, length, get_or, drop, take, replicate, refl, sym, subst, ap, ◌∙◌, arith, length-drop}
+use Rattle.std.proofs.Common.{ℕ, zero, suc, ◌<◌, ◌≤◌, ◌≡◌, ◌+◌, ◌-◌, cond, Bool, true, false, List, [], ◌∷◌, length, get_or, drop, take, replicate, refl, sym, subst, ap, ◌∙◌, arith, length-drop}
 use Rattle.std.specs.List.{count_by}
 use Rattle.std.proofs.lemmas.Bool.{true≢false}
 use Rattle.std.proofs.lemmas.List.{get_or-drop, get_or-replicate, get_or-take}
-use Rattle.std.proofs.lemmas.List.Sums.{count_by-le-length, sum_by-cons}
+use Rattle.std.proofs.lemmas.List.Elements.{All-replicate}
+use Rattle.std.proofs.lemmas.List.Sums.{count_by-le-length, sum_by-cons, sum_by-le, sum_by-take-drop}
 use Rattle.vortex_array_order.specs.Nulls.{NullBehind, NullsFirst}
 
-count-cons : (b : Bool) (bits : List Bool) → count_by (λ bit. bit) (b ∷ bits) ≡ cond {A = ℕ} b 1 0 + count_by (λ bit. bit) bits
-count-cons b bits = sum_by-cons (λ (c : Bool). cond {A = ℕ} c 1 0) b bits
+count_cons : (b : Bool) (bits : List Bool) → count_by (λ bit. bit) (b ∷ bits) ≡ cond {A = ℕ} b 1 0 + count_by (λ bit. bit) bits
+count_cons b bits = sum_by-cons (λ (c : Bool). cond {A = ℕ} c 1 0) b bits
 
 -- bits of which none is set at the front have their set bits behind it
-count-behind : (bits : List Bool) (n : ℕ) → take n bits ≡ replicate n false → count_by (λ bit. bit) bits ≡ count_by (λ bit. bit) (drop n bits)
-count-behind bits zero h = refl
-count-behind [] (suc n) h = refl
-count-behind (true ∷ bits) (suc n) h = absurd (true≢false (ap (λ bs. get_or bs 0 false) h))
-count-behind (false ∷ bits) (suc n) h = omega (arith, count-cons false bits, count-behind bits n (ap (drop 1) h))
+count_behind : (bits : List Bool) (n : ℕ) → take n bits ≡ replicate n false → count_by (λ bit. bit) bits ≡ count_by (λ bit. bit) (drop n bits)
+count_behind bits n h =
+    let none = sum_by-le (λ (c : Bool). cond {A = ℕ} c 1 0) 0 (take n bits) (rw h (All-replicate (λ (c : Bool). cond {A = ℕ} c 1 0 ≤ 0) n false (omega arith))) in
+    omega (arith, none, sum_by-take-drop (λ (c : Bool). cond {A = ℕ} c 1 0) bits n)
 
 -- as many bits as there are are set only where each is
-all-set : (bits : List Bool) (i : ℕ) → count_by (λ bit. bit) bits ≡ length bits → i < length bits → get_or bits i false ≡ true
-all-set [] i e l = absurd (omega (arith, l))
-all-set (true ∷ bits) zero e l = refl
-all-set (true ∷ bits) (suc i) e l = all-set bits i (omega (arith, e, count-cons true bits)) (omega (arith, l))
-all-set (false ∷ bits) i e l = absurd (omega (arith, e, count-cons false bits, count_by-le-length (λ (bit : Bool). bit) bits))
+all_set : (bits : List Bool) (i : ℕ) → count_by (λ bit. bit) bits ≡ length bits → i < length bits → get_or bits i false ≡ true
+all_set [] i e l = absurd (omega (arith, l))
+all_set (true ∷ bits) zero e l = refl
+all_set (true ∷ bits) (suc i) e l = all_set bits i (omega (arith, e, count_cons true bits)) (omega (arith, l))
+all_set (false ∷ bits) i e l = absurd (omega (arith, e, count_cons false bits, count_by-le-length (λ (bit : Bool). bit) bits))
 
 -- and else one is not
-one-unset : (bits : List Bool) → (count_by (λ bit. bit) bits ≡ length bits → ⊥) → (i : ℕ) × (i < length bits) × (get_or bits i false ≡ false)
-one-unset [] h = absurd (h refl)
-one-unset (true ∷ bits) h =
-    let rest = one-unset bits (λ e. h (omega (arith, e, count-cons true bits))) in
+one_unset : (bits : List Bool) → (count_by (λ bit. bit) bits ≡ length bits → ⊥) → (i : ℕ) × (i < length bits) × (get_or bits i false ≡ false)
+one_unset [] h = absurd (h refl)
+one_unset (true ∷ bits) h =
+    let rest = one_unset bits (λ e. h (omega (arith, e, count_cons true bits))) in
     (suc rest.0, omega (arith, rest.1), rest.2)
-one-unset (false ∷ bits) h = (0, omega arith, refl)
-
-front-unset : (bits : List Bool) (n i : ℕ) → take n bits ≡ replicate n false → i < n → get_or bits i false ≡ false
-front-unset bits n i h l = sym (get_or-take n bits i false l) ∙ ap (λ bs. get_or bs i false) h ∙ get_or-replicate n i false false l
+one_unset (false ∷ bits) h = (0, omega arith, refl)
 
 -- where as many bits are set as stand from the first that is set on, all of those are
 pub rest-set : (bits : List Bool) (first : ℕ) → first < length bits → take first bits ≡ replicate first false → count_by (λ bit. bit) bits ≡ length bits - first → NullsFirst bits first
 rest-set bits first within before counted =
-    let all : count_by (λ bit. bit) (drop first bits) ≡ length (drop first bits) = omega (arith, count-behind bits first before, counted, length-drop first bits) in
+    let all : count_by (λ bit. bit) (drop first bits) ≡ length (drop first bits) = omega (arith, count_behind bits first before, counted, length-drop first bits) in
     record {
       within = omega (arith, within);
-      null = λ i l. front-unset bits first i before l;
+      null = λ i l. sym (get_or-take first bits i false l) ∙ ap (λ bs. get_or bs i false) before ∙ get_or-replicate first i false false l;
       value = λ i l m.
           let back : first + (i - first) ≡ i = omega (arith, l) in
-          subst (λ k. get_or bits k false ≡ true) back (sym (get_or-drop first bits (i - first) false) ∙ all-set (drop first bits) (i - first) all (omega (arith, l, m, length-drop first bits)));
+          subst (λ k. get_or bits k false ≡ true) back (sym (get_or-drop first bits (i - first) false) ∙ all_set (drop first bits) (i - first) all (omega (arith, l, m, length-drop first bits)));
     }
 
 -- and else one behind it is not
 pub rest-not-set : (bits : List Bool) (first : ℕ) → first < length bits → get_or bits first false ≡ true → take first bits ≡ replicate first false → (count_by (λ bit. bit) bits ≡ length bits - first → ⊥) → NullBehind bits
 rest-not-set bits first within set before counted =
-    let found = one-unset (drop first bits) (λ e. counted (omega (arith, e, count-behind bits first before, length-drop first bits))) in
+    let found = one_unset (drop first bits) (λ e. counted (omega (arith, e, count_behind bits first before, length-drop first bits))) in
     let unset : get_or bits (first + found.0) false ≡ false = sym (get_or-drop first bits found.0 false) ∙ found.2 in
     record {
       first = first;

@@ -1,5 +1,5 @@
 -- What is asked of the order of rows.
-use Rattle.std.specs.Prelude.{◌≡◌, ◌<◌, ℕ, true, List, Option, Some, None, is_some}
+use Rattle.std.specs.Prelude.{ℕ, List, Option, Some, None}
 use Rattle.vortex_array_types.specs.declared.scalar.Value.{Value}
 use Rattle.vortex_array_order.specs.declared.order.RowOrder.{RowOrder}
 use Rattle.vortex_array_order.specs.declared.order.RowOrder.TheVariants.{Constant, Sorted, StrictlySorted}
@@ -17,8 +17,3 @@ Holds StrictlySorted rows = IsStrictlySorted rows
 abbrev pub ExtremesBelow : List (Option Value) → ℕ → Option ExtremePlaces → Type 0
 ExtremesBelow rows n None = NoneOf rows n
 ExtremesBelow rows n (Some found) = ExtremesOf rows n found.least found.greatest
-
--- the first place of so many equal rows, where there is one and it is a value
-abbrev pub FirstValue : ℕ → Option Value → Option ℕ → Type 0
-FirstValue n row None = 0 < n → row ≡ None
-FirstValue n row (Some i) = (i ≡ 0) × (0 < n) × (is_some row ≡ true)

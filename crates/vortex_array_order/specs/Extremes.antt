@@ -1,5 +1,5 @@
 -- The least and the greatest value of a column.
-use Rattle.std.specs.Prelude.{◌≡◌, ◌<◌, ℕ, true, IsTrue, List, All, Contains, Option, Some, None, is_some, slice_index_or}
+use Rattle.std.specs.Prelude.{◌≡◌, ◌<◌, ℕ, Bool, true, IsTrue, List, All, Contains, Option, Some, None, is_some, slice_index_or}
 use Rattle.vortex_array_types.specs.Order.{compares}
 use Rattle.vortex_array_types.specs.Row.{Column, TypedRow}
 use Rattle.vortex_array_types.specs.Widths.{full_form}
@@ -28,17 +28,19 @@ pub record AreExtremes (c : Column) (min max : TypedRow) : Type 0 where
 abbrev pub HasNoValue : List (Option Value) → Type 0
 HasNoValue rows = All (λ row. row ≡ None) rows
 
--- of the first n rows the one at the place is the least value
-pub record LeastOf (rows : List (Option Value)) (n i : ℕ) : Type 0 where
+-- of the first n rows the one at the place is a value, and stands so to each that is a value
+pub record IsExtreme (stand : Option Value → Option Value → Bool) (rows : List (Option Value)) (n i : ℕ) : Type 0 where
   pub within : i < n
   pub some : is_some (slice_index_or rows i None) ≡ true
-  pub bound : (j : ℕ) → j < n → is_some (slice_index_or rows j None) ≡ true → IsTrue (at_most (slice_index_or rows i None) (slice_index_or rows j None))
+  pub bound : (j : ℕ) → j < n → is_some (slice_index_or rows j None) ≡ true → IsTrue (stand (slice_index_or rows i None) (slice_index_or rows j None))
 
--- of the first n rows the one at the place is the greatest value
-pub record GreatestOf (rows : List (Option Value)) (n i : ℕ) : Type 0 where
-  pub within : i < n
-  pub some : is_some (slice_index_or rows i None) ≡ true
-  pub bound : (j : ℕ) → j < n → IsTrue (at_most (slice_index_or rows j None) (slice_index_or rows i None))
+-- it is the least value
+abbrev pub LeastOf : List (Option Value) → ℕ → ℕ → Type 0
+LeastOf = IsExtreme at_most
+
+-- it is the greatest value
+abbrev pub GreatestOf : List (Option Value) → ℕ → ℕ → Type 0
+GreatestOf = IsExtreme (λ a b. at_most b a)
 
 -- of the first n rows those at the places are the least and the greatest value
 pub record ExtremesOf (rows : List (Option Value)) (n i j : ℕ) : Type 0 where

@@ -1,5 +1,5 @@
 -- Columns whose rows are equal or in order.
-use Rattle.std.specs.Prelude.{◌≡◌, ◌<◌, ℕ, ◌+◌, Bool, IsTrue, List, [], ◌∷◌, length, All, Option, None, slice_index_or}
+use Rattle.std.specs.Prelude.{◌≡◌, ◌<◌, ℕ, ◌+◌, Bool, true, false, IsTrue, List, [], ◌∷◌, length, All, Option, None, slice_index_or}
 use Rattle.std.specs.Ordering.{is_some_and, is_le, is_lt}
 use Rattle.vortex_array_types.specs.Order.{row_cmp}
 use Rattle.vortex_array_types.specs.declared.scalar.Value.{Value}
@@ -17,10 +17,19 @@ at_most a b = is_some_and is_le (row_cmp a b)
 abbrev pub below : Option Value → Option Value → Bool
 below a b = is_some_and is_lt (row_cmp a b)
 
+-- each row stands so to the next one
+abbrev pub Ascends : (Option Value → Option Value → Bool) → List (Option Value) → Type 0
+Ascends stand rows = (i : ℕ) → i + 1 < length rows → IsTrue (stand (slice_index_or rows i None) (slice_index_or rows (i + 1) None))
+
 -- each row is at most the next one
 abbrev pub IsSorted : List (Option Value) → Type 0
-IsSorted rows = (i : ℕ) → i + 1 < length rows → IsTrue (at_most (slice_index_or rows i None) (slice_index_or rows (i + 1) None))
+IsSorted = Ascends at_most
 
 -- each row is below the next one
 abbrev pub IsStrictlySorted : List (Option Value) → Type 0
-IsStrictlySorted rows = (i : ℕ) → i + 1 < length rows → IsTrue (below (slice_index_or rows i None) (slice_index_or rows (i + 1) None))
+IsStrictlySorted = Ascends below
+
+-- below, where that is asked for strictly, or at most
+abbrev pub stands : Bool → Option Value → Option Value → Bool
+stands true = below
+stands false = at_most

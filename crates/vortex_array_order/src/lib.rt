@@ -1,20 +1,20 @@
-//! The order of a column's rows: whether they are equal or in order, and their least and greatest values, for each kind
-//! of column. A null is below every value, so the validity says where the values begin, and one loop goes over them alone.
+//! The order of a column's rows: whether they are equal or in order, and their least and greatest values. A null is below
+//! every value, so the validity says where the values begin, and one loop goes over them alone, whatever their kind.
 #![tactic(auto)]
 
-mod constant;
+mod bools;
+mod compared;
+mod constants;
 mod decimals;
+mod items;
 mod nulls;
-mod numbers;
 mod order;
+mod ordered;
 mod places;
-mod texts;
-mod truths;
+mod plain;
+mod primitives;
+mod strings;
 
-pub use constant::{equal_rows_are, equal_rows_extremes};
-pub use decimals::{decimal_extremes, decimals_are};
-pub use numbers::{number_extremes, numbers_are};
 pub use order::RowOrder;
+pub use ordered::{OrderValues, Ordered};
 pub use places::ExtremePlaces;
-pub use texts::{text_extremes, texts_are};
-pub use truths::{truth_extremes, truths_are};

@@ -1,5 +1,5 @@
 // Where the nulls of a column stand: the validity is looked at once, by words.
-ghost use Rattle.std.specs.Prelude.{◌≡◌, ◌<◌, ◌≤◌, ℕ, IfNone, IfSome, IsTrue, IsFalse, false, true, length, slice_index_or};
+ghost use Rattle.std.specs.Prelude.{IfNone, IfSome, IsTrue};
 ghost use Rattle.vortex_array_kinds.specs.Validities.{is_as_long, valid_bits};
 ghost use Rattle.vortex_array_order.specs.Nulls.{NullBehind, NullsFirst};
 
@@ -14,8 +14,7 @@ pub(crate) fn nulls_first(validity: &Validity, len: usize) -> Option<usize>
     ensures behind { IfNone result (NullBehind (valid_bits validity.now len)) }
 {
     match validity {
-        Validity::NonNullable => Some(0),
-        Validity::AllValid => Some(0),
+        Validity::NonNullable | Validity::AllValid => Some(0),
         Validity::AllInvalid => Some(len),
         Validity::Bits(bits) => unset_first(bits),
     }
@@ -36,32 +35,4 @@ fn unset_first(bits: &BitBuffer) -> Option<usize>
             }
         }
     }
-}
-
-/// The same of rows of which these are values.
-pub(crate) fn absent_first(present: &[bool]) -> Option<usize>
-    ensures first { IfSome result (λ n. NullsFirst present.now n) }
-    ensures behind { IfNone result (NullBehind present.now) }
-{
-    let first = first_present(present);
-    for i in first..present.len() {
-        if !present[i] {
-            return None;
-        }
-    }
-    Some(first)
-}
-
-// The place of the first row that is a value, or how many rows there are.
-fn first_present(present: &[bool]) -> usize
-    ensures within { result ≤ length present.now }
-    ensures before { (i : ℕ) → i < result → slice_index_or present.now i false ≡ false }
-    ensures set { result < length present.now → slice_index_or present.now result false ≡ true }
-{
-    for i in 0..present.len() {
-        if present[i] {
-            return i;
-        }
-    }
-    present.len()
 }

@@ -4,7 +4,7 @@ ghost use Rattle.vortex_array_order.specs.Extremes.{ExtremesOf, GreatestOf, Leas
 ghost use Rattle.vortex_array_order.specs.Nulls.{NullsFirst};
 ghost use Rattle.vortex_array_order.specs.Asked.{ExtremesBelow};
 
-use crate::order::OrderedRows;
+use crate::compared::{Compared, Rows};
 
 /// The places of the least and of the greatest value of a column.
 #[derive(Clone, Copy, Debug, PartialEq, Eq)]
@@ -16,8 +16,8 @@ pub struct ExtremePlaces {
 }
 
 /// The places of the least and of the greatest value, or none where no row is a value.
-pub(crate) fn extreme_places<R: OrderedRows>(rows: &R) -> Option<ExtremePlaces>
-    ensures { ExtremesBelow (R.rows rows.now) (length (R.rows rows.now)) result }
+pub(crate) fn extreme_places<C: Compared>(rows: &Rows<'_, C>) -> Option<ExtremePlaces>
+    ensures { ExtremesBelow rows.now (length rows.now) result }
 {
     match rows.nulls_first() {
         None => places_among(rows),
@@ -26,9 +26,9 @@ pub(crate) fn extreme_places<R: OrderedRows>(rows: &R) -> Option<ExtremePlaces>
 }
 
 // The places where only so many rows at the front are null: the values behind them are compared alone.
-fn places_behind<R: OrderedRows>(rows: &R, nulls: usize) -> Option<ExtremePlaces>
-    requires { NullsFirst (map is_some (R.rows rows.now)) nulls }
-    ensures { ExtremesBelow (R.rows rows.now) (length (R.rows rows.now)) result }
+fn places_behind<C: Compared>(rows: &Rows<'_, C>, nulls: usize) -> Option<ExtremePlaces>
+    requires { NullsFirst (map is_some rows.now) nulls }
+    ensures { ExtremesBelow rows.now (length rows.now) result }
 {
     let len = rows.count();
     if nulls == len {
@@ -45,8 +45,8 @@ fn places_behind<R: OrderedRows>(rows: &R, nulls: usize) -> Option<ExtremePlaces
 }
 
 // The places where any row may be null.
-fn places_among<R: OrderedRows>(rows: &R) -> Option<ExtremePlaces>
-    ensures { ExtremesBelow (R.rows rows.now) (length (R.rows rows.now)) result }
+fn places_among<C: Compared>(rows: &Rows<'_, C>) -> Option<ExtremePlaces>
+    ensures { ExtremesBelow rows.now (length rows.now) result }
 {
     let mut found = None;
     for i in 0..rows.count() {
@@ -57,14 +57,14 @@ fn places_among<R: OrderedRows>(rows: &R) -> Option<ExtremePlaces>
 
 // The places with one more row, which counts where it is a value.
 #[inline(always)]
-fn with_next<R: OrderedRows>(
-    rows: &R,
+fn with_next<C: Compared>(
+    rows: &Rows<'_, C>,
     found: Option<ExtremePlaces>,
     i: usize,
 ) -> Option<ExtremePlaces>
-    requires inside { i < length (R.rows rows.now) }
-    requires found { ExtremesBelow (R.rows rows.now) i found }
-    ensures { ExtremesBelow (R.rows rows.now) (i + 1) result }
+    requires inside { i < length rows.now }
+    requires found { ExtremesBelow rows.now i found }
+    ensures { ExtremesBelow rows.now (i + 1) result }
 {
     if !rows.is_value(i) {
         return found;
@@ -80,11 +80,10 @@ fn with_next<R: OrderedRows>(
 
 // The places with one more value.
 #[inline(always)]
-fn with_value<R: OrderedRows>(rows: &R, found: ExtremePlaces, i: usize) -> ExtremePlaces
-    requires inside { i < length (R.rows rows.now) }
-    requires value { is_some (slice_index_or (R.rows rows.now) i None) ≡ true }
-    requires found { ExtremesOf (R.rows rows.now) i found.least found.greatest }
-    ensures { ExtremesOf (R.rows rows.now) (i + 1) result.least result.greatest }
+fn with_value<C: Compared>(rows: &Rows<'_, C>, found: ExtremePlaces, i: usize) -> ExtremePlaces
+    requires value { is_some (slice_index_or rows.now i None) ≡ true }
+    requires found { ExtremesOf rows.now i found.least found.greatest }
+    ensures { ExtremesOf rows.now (i + 1) result.least result.greatest }
 {
     ExtremePlaces {
         least: lesser(rows, found.least, i),
@@ -94,11 +93,10 @@ fn with_value<R: OrderedRows>(rows: &R, found: ExtremePlaces, i: usize) -> Extre
 
 // The place of the lesser of the least value so far and the next one.
 #[inline(always)]
-fn lesser<R: OrderedRows>(rows: &R, place: usize, i: usize) -> usize
-    requires inside { i < length (R.rows rows.now) }
-    requires value { is_some (slice_index_or (R.rows rows.now) i None) ≡ true }
-    requires least { LeastOf (R.rows rows.now) i place }
-    ensures { LeastOf (R.rows rows.now) (i + 1) result }
+fn lesser<C: Compared>(rows: &Rows<'_, C>, place: usize, i: usize) -> usize
+    requires value { is_some (slice_index_or rows.now i None) ≡ true }
+    requires least { LeastOf rows.now i place }
+    ensures { LeastOf rows.now (i + 1) result }
 {
     if rows.compare(i, place).is_lt() {
         return i;
@@ -108,11 +106,10 @@ fn lesser<R: OrderedRows>(rows: &R, place: usize, i: usize) -> usize
 
 // The place of the greater of the greatest value so far and the next one.
 #[inline(always)]
-fn greater<R: OrderedRows>(rows: &R, place: usize, i: usize) -> usize
-    requires inside { i < length (R.rows rows.now) }
-    requires value { is_some (slice_index_or (R.rows rows.now) i None) ≡ true }
-    requires greatest { GreatestOf (R.rows rows.now) i place }
-    ensures { GreatestOf (R.rows rows.now) (i + 1) result }
+fn greater<C: Compared>(rows: &Rows<'_, C>, place: usize, i: usize) -> usize
+    requires value { is_some (slice_index_or rows.now i None) ≡ true }
+    requires greatest { GreatestOf rows.now i place }
+    ensures { GreatestOf rows.now (i + 1) result }
 {
     if rows.compare(i, place).is_gt() {
         return i;

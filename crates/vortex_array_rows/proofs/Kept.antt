@@ -1,5 +1,5 @@
 use Rattle.std.proofs.Common.{ℕ, zero, suc, ◌≡◌, cond, Bool, true, false, List, [], ◌∷◌, ◌++◌, length, map, replicate, refl, sym, ap, arith}
-use Rattle.std.specs.List.{zip, count_by}
+use Rattle.std.specs.List.{count_by}
 use Rattle.std.specs.Simd.Lanes.{zip2}
 use Rattle.std.proofs.lemmas.List.Sums.{sum_by-cons}
 use Rattle.vortex_array_rows.specs.Kept.{kept_by}

@@ -7,3 +7,4 @@ pub mod FirstSet
 pub mod PackedBits
 pub mod SlicedBits
 pub mod KeptRuns
+pub mod FrontOrder

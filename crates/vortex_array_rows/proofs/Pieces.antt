@@ -16,6 +16,11 @@ get_or-pieces bytes s [] i h = absurd (omega arith)
 get_or-pieces bytes s (e ∷ es) zero h = refl
 get_or-pieces bytes s (e ∷ es) (suc i) h = get_or-pieces bytes e es i (omega arith)
 
+-- one piece, by the places where it begins and ends
+pub piece_between : (bytes ends : List ℕ) (i start end : ℕ) → i < length ends → start ≡ start_at 0 ends i → end ≡ get_or ends i 0 → slice_range bytes start end ≡ get_or (pieces bytes 0 ends) i []
+piece_between bytes ends i start end h from to =
+    ap (λ a. take (end - a) (drop a bytes)) from ∙ ap (λ b. slice_range bytes (start_at 0 ends i) b) to ∙ sym (get_or-pieces bytes 0 ends i h)
+
 -- a chain ends no earlier than it starts
 pub chain_le : (s : ℕ) (es : List ℕ) (n : ℕ) → IsChain s es n → s ≤ n
 chain_le s [] n h = omega arith

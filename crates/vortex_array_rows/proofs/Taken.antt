@@ -47,32 +47,6 @@ taken_is_map d items (i ∷ places) (x ∷ taken) within h =
     ap (λ y. y ∷ taken) (h.0 ∙ get_or_default items i x d below)
     ∙ ap (λ ys. get_or items i d ∷ ys) (taken_is_map d items places taken (λ k e m. within (suc k) e (omega arith)) h.1)
 
--- the item at a place or the default, under a map
-map_where : {X Y : Type 0} (f : X → Y) (d : X) (items : List X) (i : ℕ) (b : Bool) → cond b (get_or (map f items) i (f d)) (f d) ≡ f (cond b (get_or items i d) d)
-map_where f d items i true = get_or-map_any f items i d
-map_where f d items i false = refl
-
--- what is taken of a map, with defaults, is the map of what is taken
-pub taken_or-map : {X Y : Type 0} (f : X → Y) (d : X) (items : List X) (places : List ℕ) (set : List Bool) → taken_or (f d) (map f items) places set ≡ map f (taken_or d items places set)
-taken_or-map f d items [] set = refl
-taken_or-map f d items (i ∷ places) [] = refl
-taken_or-map f d items (i ∷ places) (b ∷ set) =
-    ap (λ y. y ∷ taken_or (f d) (map f items) places set) (map_where f d items i b)
-    ∙ ap (λ ys. f (cond b (get_or items i d) d) ∷ ys) (taken_or-map f d items places set)
-
--- the items at a place or the defaults, joined
-zip_where : {X Y Z : Type 0} (f : X → Y → Z) (d : X) (e : Y) (xs : List X) (ys : List Y) (i : ℕ) (b : Bool) → length xs ≡ length ys → cond b (get_or (zip2 f xs ys) i (f d e)) (f d e) ≡ f (cond b (get_or xs i d) d) (cond b (get_or ys i e) e)
-zip_where f d e xs ys i true same = get_or-zip2_any f xs ys i d e same
-zip_where f d e xs ys i false same = refl
-
--- what is taken of two lists of one length, joined item by item, with defaults, is what is taken of each, joined
-pub taken_or-zip2 : {X Y Z : Type 0} (f : X → Y → Z) (d : X) (e : Y) (xs : List X) (ys : List Y) (places : List ℕ) (set : List Bool) → length xs ≡ length ys → taken_or (f d e) (zip2 f xs ys) places set ≡ zip2 f (taken_or d xs places set) (taken_or e ys places set)
-taken_or-zip2 f d e xs ys [] set same = refl
-taken_or-zip2 f d e xs ys (i ∷ places) [] same = refl
-taken_or-zip2 f d e xs ys (i ∷ places) (b ∷ set) same =
-    ap (λ z. z ∷ taken_or (f d e) (zip2 f xs ys) places set) (zip_where f d e xs ys i b same)
-    ∙ ap (λ zs. f (cond b (get_or xs i d) d) (cond b (get_or ys i e) e) ∷ zs) (taken_or-zip2 f d e xs ys places set same)
-
 -- one more place, or the default
 pub taken_or_more : {X : Type 0} (d : X) (items : List X) (places : List ℕ) (set : List Bool) (n : ℕ) (x : X) → n < length places → length places ≡ length set → x ≡ cond (get_or set n false) (get_or items (get_or places n 0) d) d → taken_or d items (take (n + 1) places) (take (n + 1) set) ≡ taken_or d items (take n places) (take n set) ++ x ∷ []
 taken_or_more d items [] set n x within same is = absurd (omega arith)

@@ -3,3 +3,4 @@ pub mod Taken
 pub mod Rows
 pub mod Pieces
 pub mod Packs
+pub mod Fronts

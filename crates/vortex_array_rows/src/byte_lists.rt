@@ -1,13 +1,18 @@
 // Lists of bytes, as texts and binary values are, one after another in one buffer.
 ghost use Rattle.std.specs.Prelude.{◌≡◌, ◌==◌, ◌<◌, ◌≤◌, ◌+◌, ◌-◌, ◌^◌, ◌++◌, ◌∷◌, [], All, EachIndex, List, ℕ, true, cond, length, map, IfOk, OnOk, OnErr, slice_index, slice_index_or, slice_range, vec_capacity, vec_len};
+ghost use Rattle.std.specs.Cmp.Lexicographic.{slice_cmp};
+ghost use Rattle.std.specs.Ordering.{is_eq, nat_cmp};
 ghost use Rattle.vortex_buffer.specs.Mask.{mask_bits};
+ghost use Rattle.vortex_array_rows.specs.Fronts.{front_number};
 ghost use Rattle.vortex_array_rows.specs.Kept.{kept_by};
 ghost use Rattle.vortex_array_rows.specs.Pieces.{pieces, IsChain, start_at};
 ghost use Rattle.vortex_array_rows.specs.Taken.{SetPlacesBelow, taken_or};
 
+use crate::fronts::{equal_between, front_between, order_between};
 use crate::kept_lists::filter_lists;
 use crate::places::RowIndex;
 use std::alloc::Global;
+use std::cmp::Ordering;
 use std::marker::Model;
 use vortex_buffer::{AllocError, BitBuffer, Mask};
 
@@ -78,6 +83,60 @@ impl ByteLists {
         ensures { result.now ≡ slice_index_or self.now i [] }
     {
         piece(&self.bytes, &self.ends, i)
+    }
+
+    /// How list `i` stands to another, whose front is `front_of` of it: byte by byte, and a list before those that go on
+    /// behind its end.
+    #[inline(always)]
+    pub fn compare_with(&self, i: usize, other: &[u8], front: u64) -> Ordering
+        requires inside { i < length self.now }
+        requires front { front ≡ front_number other.now }
+        ensures { result ≡ slice_cmp nat_cmp (slice_index_or self.now i []) other.now }
+    {
+        piece_order(&self.bytes, &self.ends, i, other, front)
+    }
+
+    /// How list `i` stands to list `j` of others, as `compare_with` says.
+    #[inline(always)]
+    pub fn compare(&self, i: usize, others: &ByteLists, j: usize) -> Ordering
+        requires inside { i < length self.now }
+        requires others { j < length others.now }
+        ensures { result ≡ slice_cmp nat_cmp (slice_index_or self.now i []) (slice_index_or others.now j []) }
+    {
+        self.compare_with(i, others.get(j), others.front(j))
+    }
+
+    /// Whether list `i` is another, whose front is `front_of` of it. The lengths are asked first.
+    #[inline(always)]
+    pub fn equals_with(&self, i: usize, other: &[u8], front: u64) -> bool
+        requires inside { i < length self.now }
+        requires front { front ≡ front_number other.now }
+        ensures { result ≡ is_eq (slice_cmp nat_cmp (slice_index_or self.now i []) other.now) }
+    {
+        piece_equals(&self.bytes, &self.ends, i, other, front)
+    }
+
+    /// Whether list `i` is list `j` of others. The lengths are asked first.
+    #[inline(always)]
+    pub fn equals(&self, i: usize, others: &ByteLists, j: usize) -> bool
+        requires inside { i < length self.now }
+        requires others { j < length others.now }
+        ensures { result ≡ is_eq (slice_cmp nat_cmp (slice_index_or self.now i []) (slice_index_or others.now j [])) }
+    {
+        let other = others.get(j);
+        if self.get(i).len() != other.len() {
+            return false;
+        }
+        self.equals_with(i, other, others.front(j))
+    }
+
+    /// The front of list `i`, as `front_of` tells it. For most lists it is one load.
+    #[inline(always)]
+    pub fn front(&self, i: usize) -> u64
+        requires { i < length self.now }
+        ensures { result ≡ front_number (slice_index_or self.now i []) }
+    {
+        piece_front(&self.bytes, &self.ends, i)
     }
 
     /// Puts a list of bytes behind the others. Where memory runs out, nothing has changed.
@@ -252,6 +311,41 @@ fn piece<'a>(bytes: &'a [u8], ends: &[usize], i: usize) -> &'a [u8]
 {
     let (start, end) = bounds_of(bytes.len(), ends, i);
     &bytes[start..end]
+}
+
+// The front of piece i.
+#[inline(always)]
+fn piece_front(bytes: &[u8], ends: &[usize], i: usize) -> u64
+    requires inside { i < length ends.now }
+    requires chain { IsChain 0 ends.now (length bytes.now) }
+    ensures { result ≡ front_number (slice_index_or (pieces bytes.now 0 ends.now) i []) }
+{
+    let (start, end) = bounds_of(bytes.len(), ends, i);
+    front_between(bytes, start, end)
+}
+
+// How piece i stands to a list of this front.
+#[inline(always)]
+fn piece_order(bytes: &[u8], ends: &[usize], i: usize, other: &[u8], front: u64) -> Ordering
+    requires inside { i < length ends.now }
+    requires chain { IsChain 0 ends.now (length bytes.now) }
+    requires front { front ≡ front_number other.now }
+    ensures { result ≡ slice_cmp nat_cmp (slice_index_or (pieces bytes.now 0 ends.now) i []) other.now }
+{
+    let (start, end) = bounds_of(bytes.len(), ends, i);
+    order_between(bytes, start, end, other, front)
+}
+
+// Whether piece i is a list of this front.
+#[inline(always)]
+fn piece_equals(bytes: &[u8], ends: &[usize], i: usize, other: &[u8], front: u64) -> bool
+    requires inside { i < length ends.now }
+    requires chain { IsChain 0 ends.now (length bytes.now) }
+    requires front { front ≡ front_number other.now }
+    ensures { result ≡ is_eq (slice_cmp nat_cmp (slice_index_or (pieces bytes.now 0 ends.now) i []) other.now) }
+{
+    let (start, end) = bounds_of(bytes.len(), ends, i);
+    equal_between(bytes, start, end, other, front)
 }
 
 // Where piece i begins and ends.

@@ -7,6 +7,7 @@
 
 mod bit_rows;
 mod byte_lists;
+mod fronts;
 mod items;
 mod kept_bits;
 mod kept_items;
@@ -16,6 +17,7 @@ mod set_bits;
 
 pub use bit_rows::{slice_bits, take_bits, take_bits_or};
 pub use byte_lists::ByteLists;
+pub use fronts::front_of;
 pub use items::{slice_items, take_items, take_items_or};
 pub use kept_bits::filter_bits;
 pub use kept_items::filter_items;

@@ -1,4 +1,4 @@
 pub mod SelectedRows
 pub mod TakenRows
-pub mod TextRows
-pub mod EqualRows
+pub mod ConstantRows
+pub mod StringRows

@@ -1,95 +1,77 @@
--- Parts of rows under a validity.
-use Rattle.std.proofs.Common.{ℕ, ◌≤◌, ◌≡◌, ◌==◌, Bool, List, length, map, refl, sym, ap, ◌∙◌, arith, Option, Some, None, eq-eqb}
+-- Parts of rows under a validity: rows in a line, and rows that a mask keeps.
+use Rattle.std.proofs.Common.{ℕ, ◌-◌, ◌≤◌, ◌≡◌, Bool, List, length, map, refl, sym, ap, ◌∙◌, arith, Option, Some, None, eq-eqb}
 use Rattle.std.specs.Prelude.{IsTrue, slice_range}
-use Rattle.std.proofs.lemmas.Bool.Decides.{Decides-eqb}
-use Rattle.vortex_array_types.specs.Row.{Column}
+use Rattle.std.specs.List.{count_by}
+use Rattle.std.specs.Simd.Lanes.{zip2}
 use Rattle.vortex_array_types.specs.declared.types.DType.{DType}
 use Rattle.vortex_array_types.specs.declared.types.Nullability.{Nullability}
 use Rattle.vortex_array_types.specs.declared.scalar.Value.{Value}
 use Rattle.vortex_array_rows.specs.Kept.{kept_by}
-use Rattle.vortex_array_rows.proofs.Slices.{slice-map, slice-zip2}
+use Rattle.vortex_array_rows.proofs.Slices.{length-slice, slice-map, slice-zip2}
 use Rattle.vortex_array_rows.proofs.Kept.{kept_by-map, kept_by-zip2, length-kept_by}
+use Rattle.vortex_array_kinds.specs.Kinds.{plain_column}
+use Rattle.vortex_array_kinds.specs.Parts.{PlainParts}
 use Rattle.vortex_array_kinds.specs.Validities.{row_of, rows_under, is_as_long, nullability_of}
-use Rattle.vortex_array_select.specs.Selected.{sliced, filtered}
-use Rattle.vortex_array_select.specs.SelectedParts.{Covers, sliced_validity, kept_validity}
-use Rattle.vortex_array_kinds.proofs.RowLemmas.{length-rows-map}
 use Rattle.vortex_array_kinds.specs.declared.validity.Validity.{Validity}
 use Rattle.vortex_array_kinds.specs.declared.validity.Validity.TheVariants.{NonNullable, AllValid, AllInvalid, Bits}
-
--- a type and rows, as a column
-abbrev pub column_with : DType → List (Option Value) → Column
-column_with t rows = record { dtype = t; rows = rows }
+use Rattle.vortex_array_kinds.proofs.RowLemmas.{column_with, long_bits}
+use Rattle.vortex_array_select.specs.Selected.{sliced, filtered}
+use Rattle.vortex_array_select.specs.SelectedParts.{map_bits}
 
 -- equal types and equal rows are equal columns
 pub same-column : (t u : DType) (rs ss : List (Option Value)) → t ≡ u → rs ≡ ss → column_with t rs ≡ column_with u ss
 same-column t u rs ss e f = ap (λ w. column_with w rs) e ∙ ap (column_with u) f
 
--- bits of the length asked for have it
-pub bits-long : (bits : List Bool) (n : ℕ) → IsTrue (length bits == n) → length bits ≡ n
-bits-long bits n e = (Decides-eqb (length bits) n).0 e
+part_nulls : (part : List Bool → List Bool) (v : Validity) → nullability_of (map_bits part v) ≡ nullability_of v
+part_nulls part NonNullable = refl
+part_nulls part AllValid = refl
+part_nulls part AllInvalid = refl
+part_nulls part (Bits bits) = refl
 
--- a validity of n rows covers fewer
-pub covers-fewer : (v : Validity) (n k : ℕ) → IsTrue (is_as_long v n) → k ≤ n → Covers v k
-covers-fewer NonNullable n k e l = tt
-covers-fewer AllValid n k e l = tt
-covers-fewer AllInvalid n k e l = tt
-covers-fewer (Bits bits) n k e l = omega (arith, l, bits-long bits n e)
+-- what is taken of lists alike, item by item
+record IsPart (part : (X : Type 0) → List X → List X) : Type 1 where
+  maps : (X Y : Type 0) (f : X → Y) (xs : List X) → part Y (map f xs) ≡ map f (part X xs)
+  zips : (X Y Z : Type 0) (f : X → Y → Z) (xs : List X) (ys : List Y) → part Z (zip2 f xs ys) ≡ zip2 f (part X xs) (part Y ys)
+
+part_rows : (part : (X : Type 0) → List X → List X) → IsPart part → (v : Validity) (xs : List Value) → rows_under (map_bits (part Bool) v) (part Value xs) ≡ part (Option Value) (rows_under v xs)
+part_rows part is NonNullable xs = sym (is.maps Value (Option Value) (λ x. Some x) xs)
+part_rows part is AllValid xs = sym (is.maps Value (Option Value) (λ x. Some x) xs)
+part_rows part is AllInvalid xs = sym (is.maps Value (Option Value) (λ _. None) xs)
+part_rows part is (Bits bits) xs = sym (is.zips Value Bool (Option Value) row_of xs bits)
+
+-- such a part of a plain array has that part of its values and of its validity
+part_column : {X : Type 0} (type_of : X → Nullability → DType) (items : X → List Value) (a : PlainParts X) (values : X) (part : (X : Type 0) → List X → List X) → IsPart part
+    → ((n : Nullability) → type_of values n ≡ type_of a.values n) → items values ≡ part Value (items a.values)
+    → plain_column type_of items (record { values = values; validity = map_bits (part Bool) a.validity }) ≡ column_with (type_of a.values (nullability_of a.validity)) (part (Option Value) (rows_under a.validity (items a.values)))
+part_column type_of items a values part is same e = same-column _ _ _ _
+    (same (nullability_of (map_bits (part Bool) a.validity)) ∙ ap (type_of a.values) (part_nulls (part Bool) a.validity))
+    (ap (rows_under (map_bits (part Bool) a.validity)) e ∙ part_rows part is a.validity (items a.values))
+
+-- and the validity is as long as the values
+part_long : (v : Validity) (part : List Bool → List Bool) (n m : ℕ) → IsTrue (is_as_long v n) → ((bits : List Bool) → length bits ≡ n → length (part bits) ≡ m) → IsTrue (is_as_long (map_bits part v) m)
+part_long NonNullable part n m e h = refl
+part_long AllValid part n m e h = refl
+part_long AllInvalid part n m e h = refl
+part_long (Bits bits) part n m e h = eq-eqb (length (part bits)) m (h bits (long_bits bits n e))
 
 -- rows in a line are the values in that line, under the validity there
-rows-sliced : {X : Type 0} (v : Validity) (vs : List X) (i j : ℕ) → rows_under (sliced_validity i j v) (slice_range vs i j) ≡ slice_range (rows_under v vs) i j
-rows-sliced NonNullable vs i j = sym (slice-map (λ x. Some x) vs i j)
-rows-sliced AllValid vs i j = sym (slice-map (λ x. Some x) vs i j)
-rows-sliced AllInvalid vs i j = sym (slice-map (λ _. None) vs i j)
-rows-sliced (Bits bits) vs i j = sym (slice-zip2 row_of vs bits i j)
+pub sliced-column : {X : Type 0} (type_of : X → Nullability → DType) (items : X → List Value) (a : PlainParts X) (values : X) (i j : ℕ) → ((n : Nullability) → type_of values n ≡ type_of a.values n) → items values ≡ slice_range (items a.values) i j
+    → plain_column type_of items (record { values = values; validity = map_bits (λ bits. slice_range bits i j) a.validity }) ≡ sliced i j (plain_column type_of items a)
+sliced-column type_of items a values i j = part_column type_of items a values (λ X xs. slice_range xs i j) (record { maps = λ X Y f xs. slice-map f xs i j; zips = λ X Y Z f xs ys. slice-zip2 f xs ys i j })
 
-sliced-nulls : (v : Validity) (i j : ℕ) → nullability_of (sliced_validity i j v) ≡ nullability_of v
-sliced-nulls NonNullable i j = refl
-sliced-nulls AllValid i j = refl
-sliced-nulls AllInvalid i j = refl
-sliced-nulls (Bits bits) i j = refl
+pub sliced-long : {X : Type 0} (items : X → List Value) (count : X → ℕ) → ((x : X) → length (items x) ≡ count x) → (a : PlainParts X) (values : X) (i j : ℕ) → IsTrue (is_as_long a.validity (count a.values)) → i ≤ j → j ≤ count a.values → items values ≡ slice_range (items a.values) i j
+    → IsTrue (is_as_long (map_bits (λ bits. slice_range bits i j) a.validity) (count values))
+sliced-long items count counted a values i j long order within e =
+    let many : count values ≡ j - i = sym (counted values) ∙ ap length e ∙ length-slice (items a.values) i j order (omega (arith, within, counted a.values)) in
+    part_long a.validity (λ bits. slice_range bits i j) (count a.values) (count values) long (λ bits same. length-slice bits i j order (omega (arith, within, same)) ∙ sym many)
 
--- a part of a column is a part of its values and of its validity
-pub sliced-column : {X : Type 0} (t : Nullability → DType) (f : X → Value) (v : Validity) (xs : List X) (i j : ℕ)
-    → column_with (t (nullability_of (sliced_validity i j v))) (rows_under (sliced_validity i j v) (map f (slice_range xs i j)))
-    ≡ sliced i j (column_with (t (nullability_of v)) (rows_under v (map f xs)))
-sliced-column t f v xs i j = same-column _ _ _ _ (ap t (sliced-nulls v i j)) (ap (rows_under (sliced_validity i j v)) (sym (slice-map f xs i j)) ∙ rows-sliced v (map f xs) i j)
+-- and so what a mask keeps
+pub kept-column : {X : Type 0} (type_of : X → Nullability → DType) (items : X → List Value) (a : PlainParts X) (values : X) (set : List Bool) → ((n : Nullability) → type_of values n ≡ type_of a.values n) → items values ≡ kept_by set (items a.values)
+    → plain_column type_of items (record { values = values; validity = map_bits (kept_by set) a.validity }) ≡ filtered set (plain_column type_of items a)
+kept-column type_of items a values set = part_column type_of items a values (λ X xs. kept_by set xs) (record { maps = λ X Y f xs. kept_by-map f set xs; zips = λ X Y Z f xs ys. kept_by-zip2 f set xs ys })
 
--- the rows that a mask keeps are the values that it keeps, under what it keeps of the validity
-rows-kept : {X : Type 0} (set : List Bool) (v : Validity) (vs : List X) → rows_under (kept_validity set v) (kept_by set vs) ≡ kept_by set (rows_under v vs)
-rows-kept set NonNullable vs = sym (kept_by-map (λ x. Some x) set vs)
-rows-kept set AllValid vs = sym (kept_by-map (λ x. Some x) set vs)
-rows-kept set AllInvalid vs = sym (kept_by-map (λ _. None) set vs)
-rows-kept set (Bits bits) vs = sym (kept_by-zip2 row_of set vs bits)
-
-kept-nulls : (set : List Bool) (v : Validity) → nullability_of (kept_validity set v) ≡ nullability_of v
-kept-nulls set NonNullable = refl
-kept-nulls set AllValid = refl
-kept-nulls set AllInvalid = refl
-kept-nulls set (Bits bits) = refl
-
--- the validity of what is kept is as long as that
-pub kept-long : {X : Type 0} (set : List Bool) (v : Validity) (xs : List X) → IsTrue (is_as_long v (length xs)) → length set ≡ length xs → IsTrue (is_as_long (kept_validity set v) (length (kept_by set xs)))
-kept-long set NonNullable xs e same = refl
-kept-long set AllValid xs e same = refl
-kept-long set AllInvalid xs e same = refl
-kept-long set (Bits bits) xs e same =
-    let lengths : length set ≡ length bits = same ∙ sym (bits-long bits (length xs) e) in
-    eq-eqb (length (kept_by set bits)) (length (kept_by set xs)) (length-kept_by set bits lengths ∙ sym (length-kept_by set xs same))
-
--- what a mask keeps of a column is what it keeps of its values and of its validity
-pub kept-column : {X : Type 0} (t : Nullability → DType) (f : X → Value) (set : List Bool) (v : Validity) (xs : List X)
-    → column_with (t (nullability_of (kept_validity set v))) (rows_under (kept_validity set v) (map f (kept_by set xs)))
-    ≡ filtered set (column_with (t (nullability_of v)) (rows_under v (map f xs)))
-kept-column t f set v xs = same-column _ _ _ _ (ap t (kept-nulls set v)) (ap (rows_under (kept_validity set v)) (sym (kept_by-map f set xs)) ∙ rows-kept set v (map f xs))
-
--- a mask that is as long as the rows is as long as the values
-pub mask-same : {X Y : Type 0} (f : X → Y) (v : Validity) (xs : List X) (set : List Bool) → IsTrue (is_as_long v (length xs)) → length set ≡ length (rows_under v (map f xs)) → length set ≡ length xs
-mask-same f v xs set e same = same ∙ length-rows-map f v xs e
-
--- and as the validity
-pub mask-fits : {X Y : Type 0} (f : X → Y) (v : Validity) (xs : List X) (set : List Bool) → IsTrue (is_as_long v (length xs)) → length set ≡ length (rows_under v (map f xs)) → IsTrue (is_as_long v (length set))
-mask-fits f v xs set e same = rw (mask-same f v xs set e same) e
-
--- an end within the rows is one within the values
-pub end-within : {X Y : Type 0} (f : X → Y) (v : Validity) (xs : List X) (j : ℕ) → IsTrue (is_as_long v (length xs)) → j ≤ length (rows_under v (map f xs)) → j ≤ length xs
-end-within f v xs j e within = omega (arith, within, length-rows-map f v xs e)
+pub kept-long : {X : Type 0} (items : X → List Value) (count : X → ℕ) → ((x : X) → length (items x) ≡ count x) → (a : PlainParts X) (values : X) (set : List Bool) → IsTrue (is_as_long a.validity (count a.values)) → length set ≡ count a.values → items values ≡ kept_by set (items a.values)
+    → IsTrue (is_as_long (map_bits (kept_by set) a.validity) (count values))
+kept-long items count counted a values set long same e =
+    let many : count values ≡ count_by (λ bit. bit) set = sym (counted values) ∙ ap length e ∙ length-kept_by set (items a.values) (same ∙ sym (counted a.values)) in
+    part_long a.validity (kept_by set) (count a.values) (count values) long (λ bits k. length-kept_by set bits (same ∙ sym k) ∙ sym many)

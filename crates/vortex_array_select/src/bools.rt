@@ -1,47 +1,34 @@
-// Parts of columns of truth values.
-ghost use Rattle.vortex_array_kinds.specs.Kinds.{bool_column};
-
-use crate::select::{Select, Take};
-use crate::validities::{filter_validity, slice_validity, take_bits_under, take_validity};
+// Parts of truth values.
+use crate::select::SelectValues;
+use crate::taken::take_bits_under;
 use std::alloc::{AllocError, Global};
-use vortex_array_kinds::{BoolArray, Validity};
+use vortex_array_kinds::Validity;
 use vortex_array_rows::{RowIndex, filter_bits, slice_bits};
-use vortex_buffer::Mask;
+use vortex_buffer::{BitBuffer, Mask};
 
-impl Select for BoolArray {
-    ghost column = { bool_column };
-
-    fn slice(&self, alloc: Global, start: usize, end: usize) -> Result<BoolArray, AllocError> {
-        let validity = slice_validity(alloc, self.validity(), start, end)?;
-        let bits = slice_bits(alloc, self.bits(), start, end)?;
-        match BoolArray::try_new(bits, validity) {
-            Ok(part) => Ok(part),
-            Err(_) => unreachable!(),
-        }
+impl SelectValues for BitBuffer {
+    fn slice_values(
+        &self,
+        alloc: Global,
+        start: usize,
+        end: usize,
+    ) -> Result<BitBuffer, AllocError> {
+        let part = slice_bits(alloc, self, start, end)?;
+        Ok(part)
     }
 
-    fn filter(&self, alloc: Global, mask: &Mask) -> Result<BoolArray, AllocError> {
-        let validity = filter_validity(alloc, self.validity(), mask)?;
-        let bits = filter_bits(alloc, self.bits(), mask)?;
-        match BoolArray::try_new(bits, validity) {
-            Ok(kept) => Ok(kept),
-            Err(_) => unreachable!(),
-        }
+    fn filter_values(&self, alloc: Global, mask: &Mask) -> Result<BitBuffer, AllocError> {
+        let kept = filter_bits(alloc, self, mask)?;
+        Ok(kept)
     }
-}
 
-impl Take for BoolArray {
-    fn take<P: RowIndex>(
+    fn take_values<P: RowIndex>(
         &self,
         alloc: Global,
         places: &[P],
         nulls: &Validity,
-    ) -> Result<BoolArray, AllocError> {
-        let validity = take_validity(alloc, self.validity(), places, nulls)?;
-        let bits = take_bits_under(alloc, self.bits(), places, nulls)?;
-        match BoolArray::try_new(bits, validity) {
-            Ok(part) => Ok(part),
-            Err(_) => unreachable!(),
-        }
+    ) -> Result<BitBuffer, AllocError> {
+        let part = take_bits_under(alloc, self, places, nulls)?;
+        Ok(part)
     }
 }

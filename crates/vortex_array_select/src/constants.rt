@@ -13,8 +13,6 @@ use vortex_array_types::Scalar;
 use vortex_buffer::Mask;
 
 impl Select for ConstantArray {
-    ghost column = { constant_column };
-
     fn slice(&self, alloc: Global, start: usize, end: usize) -> Result<ConstantArray, AllocError> {
         let scalar = self.scalar().try_clone(alloc)?;
         Ok(ConstantArray::new(scalar, end - start))
@@ -27,7 +25,7 @@ impl Select for ConstantArray {
 }
 
 /// The equal rows at the places, of which none is null.
-pub fn take_equal<P: RowIndex>(
+pub fn take_constant<P: RowIndex>(
     alloc: Global,
     array: &ConstantArray,
     places: &[P],
@@ -48,8 +46,6 @@ fn scalar_under(alloc: Global, scalar: &Scalar, nulls: &Validity) -> Result<Scal
     let scalar = scalar.try_clone(alloc)?;
     match nulls {
         Validity::NonNullable => Ok(scalar),
-        Validity::AllValid => Ok(scalar.into_nullable()),
-        Validity::AllInvalid => Ok(scalar.into_nullable()),
-        Validity::Bits(_) => Ok(scalar.into_nullable()),
+        Validity::AllValid | Validity::AllInvalid | Validity::Bits(_) => Ok(scalar.into_nullable()),
     }
 }

@@ -1,3 +1,4 @@
 pub mod UnknownNames
 pub mod Bounds
 pub mod FilterCopies
+pub mod SameTypes

@@ -2,6 +2,7 @@
 use Rattle.std.specs.Prelude.{ℕ, ◌^◌, ◌-◌, ℤ, pos, neg_ℤ, Bool, true, false}
 use Rattle.vortex_array_types.specs.declared.types.PType.{PType}
 use Rattle.vortex_array_types.specs.declared.types.PType.TheVariants.{U8, U16, U32, U64, I8, I16, I32, I64}
+use Rattle.vortex_array_types.specs.declared.types.Nullability.{Nullability}
 use Rattle.vortex_array_types.specs.declared.types.Nullability.TheVariants.{NonNullable, Nullable}
 use Rattle.vortex_array_types.specs.declared.types.DType.{DType}
 use Rattle.vortex_array_types.specs.declared.types.DType.TheVariants as dtype
@@ -50,18 +51,18 @@ greatest I16 = pos (2 ^ 15 - 1)
 greatest I32 = pos (2 ^ 31 - 1)
 greatest I64 = pos (2 ^ 63 - 1)
 
+-- the same type, with nulls or without
+abbrev pub with_nullability : Nullability → DType → DType
+with_nullability n (dtype.Bool m) = dtype.Bool n
+with_nullability n (dtype.Primitive width m) = dtype.Primitive width n
+with_nullability n (dtype.Decimal d m) = dtype.Decimal d n
+with_nullability n (dtype.Utf8 m) = dtype.Utf8 n
+with_nullability n (dtype.Binary m) = dtype.Binary n
+
 -- the same type, with nulls
 abbrev pub nullable_form : DType → DType
-nullable_form (dtype.Bool n) = dtype.Bool Nullable
-nullable_form (dtype.Primitive width n) = dtype.Primitive width Nullable
-nullable_form (dtype.Decimal d n) = dtype.Decimal d Nullable
-nullable_form (dtype.Utf8 n) = dtype.Utf8 Nullable
-nullable_form (dtype.Binary n) = dtype.Binary Nullable
+nullable_form t = with_nullability Nullable t
 
 -- the same type, without nulls
 abbrev pub full_form : DType → DType
-full_form (dtype.Bool n) = dtype.Bool NonNullable
-full_form (dtype.Primitive width n) = dtype.Primitive width NonNullable
-full_form (dtype.Decimal d n) = dtype.Decimal d NonNullable
-full_form (dtype.Utf8 n) = dtype.Utf8 NonNullable
-full_form (dtype.Binary n) = dtype.Binary NonNullable
+full_form t = with_nullability NonNullable t

@@ -1,7 +1,7 @@
 // Whether a filter can be asked of a table's columns, and copies of filters.
 ghost use Rattle.std.specs.Prelude.{◌≡◌, ◌∷◌, ◌++◌, [], Ok, not, find, is_some, option_copied, IfErr, IfOk, IsOkAnd};
 ghost use Rattle.vortex_array_types.specs.Cells.{dtype_of};
-ghost use Rattle.vortex_array_types.specs.Checked.{Checks, Cause, first_unknown};
+ghost use Rattle.vortex_array_types.specs.Checked.{Checks, Cause, unknown_in as unknown_name_in};
 ghost use Rattle.vortex_array_types.specs.declared.filter.Filter.TheVariants as filters;
 ghost use Rattle.vortex_array_types.specs.Typed.{filter_names, is_constant as is_constant_operand, is_text, is_truth_value, operand_names, operand_type, same_type, well_typed};
 
@@ -85,9 +85,23 @@ impl Filter {
         }
     }
 
+    /// The first name of the filter, from left to right, that no column has.
+    pub fn unknown_name(&self, columns: &[ColumnDesc]) -> Option<&Name>
+        ensures { option_copied result ≡ unknown_name_in columns.now self.now }
+    {
+        unknown_in(columns, self)
+    }
+
+    /// Whether the filter meets the type rules. Two operands that are compared have the same type apart from nullability,
+    /// a text is matched with a constant text, and a truth value alone is a filter by itself.
+    pub fn is_well_typed(&self, columns: &[ColumnDesc]) -> bool
+        ensures { result ≡ well_typed columns.now (Some self.now) }
+    {
+        is_typed(columns, self)
+    }
+
     /// Whether the filter can be asked of rows of these columns: each of its names is a column's, and it meets the
-    /// type rules. Two operands that are compared have the same type apart from nullability, a text is matched with a
-    /// constant text, and a truth value alone is a filter by itself.
+    /// type rules.
     ///
     /// # Errors
     /// `UnknownColumn` with the first name, from left to right, that no column has; else `MismatchedTypes` where a type
@@ -96,11 +110,11 @@ impl Filter {
         ensures ok { IfOk result (λ _. Checks columns.now self.now) }
         ensures err { IfErr result (Cause columns.now self.now) }
     {
-        if let Some(name) = unknown_in(columns, self) {
+        if let Some(name) = self.unknown_name(columns) {
             let name = name.try_clone(alloc)?;
             return Err(FilterError::UnknownColumn { name });
         }
-        if !is_typed(columns, self) {
+        if !self.is_well_typed(columns) {
             return Err(FilterError::MismatchedTypes);
         }
         Ok(())
@@ -222,8 +236,8 @@ fn boxed(alloc: Global, f: Result<Filter, AllocError>) -> Result<Boxed<Filter>, 
     Boxed::new(alloc, f?)
 }
 
-// The type of the column with this name, or none where no column has the name.
-fn column_type(columns: &[ColumnDesc], name: &str) -> Option<DType>
+/// The type of the column with this name, or none where no column has the name.
+pub fn column_type(columns: &[ColumnDesc], name: &str) -> Option<DType>
     ensures { result ≡ dtype_of columns.now name.now }
 {
     let mut rest = columns;
@@ -276,7 +290,7 @@ fn unknown_of_three<'a>(
 // The first name of a filter, from left to right, that no column has.
 #[tactic(auto, using(crate::specs::declared::filter::Filter::the_lemmas, crate::proofs::UnknownNames::find_append))]
 fn unknown_in<'a>(columns: &[ColumnDesc], filter: &'a Filter) -> Option<&'a Name>
-    ensures { option_copied result ≡ first_unknown columns.now filter.now }
+    ensures { option_copied result ≡ unknown_name_in columns.now filter.now }
 {
     match filter {
         Filter::Truth(x) => unknown_operand(columns, x),

@@ -16,9 +16,9 @@ mod value_ref;
 
 pub use column::ColumnDesc;
 pub use filter::{BetweenOptions, Filter, Operand, StrictComparison};
-pub use filter_check::FilterError;
+pub use filter_check::{FilterError, column_type};
 pub use names::{Bytes, Name, Text};
-pub use native::{CodeType, NativeOrder, NativeValue};
+pub use native::{CodeType, NativeValue};
 pub use scalar::{Scalar, Value, WrongType};
 pub use types::{BadPrecision, DType, DecimalDType, Nullability, PType};
 pub use value_order::{accepts, compares};

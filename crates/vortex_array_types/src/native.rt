@@ -2,8 +2,6 @@
 ghost use Rattle.std.specs.Prelude.{◌≡◌, ◌&&◌, ℤ, pos, int_le, IfSome, IsTrue, is_some, refl, true};
 ghost use Rattle.std.specs.Bool.{Decides};
 ghost use Rattle.std.specs.Cmp.{signed_Decides};
-ghost use Rattle.std.specs.Ordering.{int_cmp};
-ghost use Rattle.vortex_array_types.specs.NumberOrder.{integers_ordered, naturals_ordered};
 ghost use Rattle.vortex_array_types.specs.Row.{in_width};
 ghost use Rattle.vortex_array_types.specs.Widths.{greatest, has_no_sign, least};
 ghost use Rattle.vortex_array_types.specs.SameNumber.{same_naturals};
@@ -35,11 +33,6 @@ pub trait NativeValue: Copy + Eq + Hash {
         ensures within { is_some result ≡ in_width width value };
 
     ghost same_number: { (x y : Self) → Decides (Self.eq x y) (number x ≡ number y) };
-}
-
-/// A native type of whole numbers whose order is that of its numbers.
-pub trait NativeOrder: NativeValue + Ord {
-    ghost ordered: { (x y : Self) → Self.cmp x y ≡ int_cmp (Self.number x) (Self.number y) };
 }
 
 /// An unsigned native type, in which the codes of a dictionary are kept.
@@ -258,38 +251,6 @@ impl NativeValue for i64 {
     }
 
     ghost same_number = { signed_Decides };
-}
-
-impl NativeOrder for u8 {
-    ghost ordered = { naturals_ordered };
-}
-
-impl NativeOrder for u16 {
-    ghost ordered = { naturals_ordered };
-}
-
-impl NativeOrder for u32 {
-    ghost ordered = { naturals_ordered };
-}
-
-impl NativeOrder for u64 {
-    ghost ordered = { naturals_ordered };
-}
-
-impl NativeOrder for i8 {
-    ghost ordered = { integers_ordered };
-}
-
-impl NativeOrder for i16 {
-    ghost ordered = { integers_ordered };
-}
-
-impl NativeOrder for i32 {
-    ghost ordered = { integers_ordered };
-}
-
-impl NativeOrder for i64 {
-    ghost ordered = { integers_ordered };
 }
 
 impl CodeType for u8 {

@@ -29,21 +29,21 @@ bits_at-none n =
     (λ i h. let l : i < n = omega (arith, length-bits_at n [], h) in get_or-bits_at n [] i l ∙ sym (get_or-replicate n i false false l))
 
 -- or with a truth that does not hold
-or_none : (b c : Bool) → c ≡ false → b ≡ (b || c)
+pub or_none : (b c : Bool) → c ≡ false → b ≡ (b || c)
 or_none true c e = refl
 or_none false c e = sym e
 
 -- or with a truth that holds
-or_some : (b c : Bool) → c ≡ true → true ≡ (b || c)
+pub or_some : (b c : Bool) → c ≡ true → true ≡ (b || c)
 or_some true c e = refl
 or_some false c e = sym e
 
 -- the test that finds a place
-same_place : (p i : ℕ) → p ≡ i → eqb p i ≡ true
+pub same_place : (p i : ℕ) → p ≡ i → eqb p i ≡ true
 same_place p i e = grind arith
 
 -- the test that passes a place over
-other_place : (p i : ℕ) → p ≢ i → eqb p i ≡ false
+pub other_place : (p i : ℕ) → p ≢ i → eqb p i ≡ false
 other_place p i e = grind arith
 
 -- one bit set in its word: that bit is set, and all others stay

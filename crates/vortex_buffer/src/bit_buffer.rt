@@ -1,16 +1,17 @@
 // Bits in words of 64, least significant bit first.
-ghost use Rattle.std.specs.Prelude.{◌≡◌, ◌<◌, ◌≤◌, ◌*◌, ◌&&◌, ◌||◌, false, length, slice_index_or, IfOk, count_by, not, map, replicate};
+ghost use Rattle.std.specs.Prelude.{◌≡◌, ◌<◌, ◌≤◌, ◌*◌, ◌++◌, ◌∷◌, ◌&&◌, ◌||◌, [], false, length, slice_index_or, take, IfOk, OnErr, OnOk, count_by, not, map, replicate};
 ghost use Rattle.std.specs.Simd.Lanes.{zip2};
 ghost use Rattle.vortex_buffer.specs.Bits.{bits_of, word_of, words_for};
 
 use crate::buffer::Buffer;
 use crate::words::{
-    and_words, clear_spare, copy_words, count_set, not_words, or_words, unset_words,
+    and_words, clear_spare, copy_words, count_set, keep_bits, not_words, or_words, push_bit,
+    unset_words,
 };
 use std::alloc::{AllocError, Global};
 use std::marker::Model;
 
-/// A list of bits that stays as it is, kept in words of 64 bits, least significant bit first.
+/// A list of bits, kept in words of 64 bits, least significant bit first. It grows and shrinks at its end alone.
 /// Contracts see the list of its bits; `bits_of` reads words as bits, and `word_of` bits as words.
 pub struct BitBuffer {
     words: Vec<u64>,
@@ -53,9 +54,30 @@ impl BitBuffer {
         ensures len { length result ≡ len }
     {
         let mut words = words.into_vec();
-        words.truncate(len.div_ceil(64));
-        clear_spare(&mut words, len);
+        keep_bits(&mut words, len);
         BitBuffer { words, len }
+    }
+
+    /// Puts a bit behind the others. Where memory is wanting, nothing has changed.
+    pub fn push(&mut self, bit: bool) -> Result<(), AllocError>
+        ensures pushed { OnOk result (self.new ≡ self.old ++ bit ∷ []) }
+        ensures kept { OnErr result (self.new ≡ self.old) }
+    {
+        if self.len == usize::MAX {
+            return Err(AllocError);
+        }
+        push_bit(&mut self.words, self.len, bit)?;
+        self.len += 1;
+        Ok(())
+    }
+
+    /// Keeps the first `len` bits. It takes no memory.
+    pub fn truncate(&mut self, len: usize)
+        requires { len ≤ length self.old }
+        ensures { self.new ≡ take len self.old }
+    {
+        keep_bits(&mut self.words, len);
+        self.len = len;
     }
 
     /// How many bits there are.

@@ -1,8 +1,8 @@
 // Work on the words of a list of bits, one word at a time.
-ghost use Rattle.std.specs.Prelude.{◌≡◌, ◌*◌, ◌≤◌, ◌<◌, All, bit_and, bit_or, false, length, replicate, IfOk, count_by, map};
+ghost use Rattle.std.specs.Prelude.{◌≡◌, ◌+◌, ◌*◌, ◌≤◌, ◌<◌, ◌++◌, ◌∷◌, [], All, bit_and, bit_or, false, length, replicate, IfOk, OnErr, OnOk, count_by, map};
 ghost use Rattle.std.specs.Int.{bit_not, w64};
 ghost use Rattle.std.specs.List.{zip};
-ghost use Rattle.vortex_buffer.specs.Bits.{bits_of, words_for, HoldsBits};
+ghost use Rattle.vortex_buffer.specs.Bits.{bits_of, word_bit, words_for, HoldsBits};
 ghost use Rattle.vortex_buffer.specs.Mask.{bits_at};
 
 use std::alloc::{AllocError, Global};
@@ -67,6 +67,53 @@ pub(crate) fn clear_spare(words: &mut [u64], len: usize)
         let last = len / 64;
         words[last] &= (1 << spare) - 1;
     }
+}
+
+// Keeps the words of the first `len` bits, and sets the bits past them to 0.
+pub(crate) fn keep_bits(words: &mut Vec<u64>, len: usize)
+    requires { len ≤ length words.old.items * 64 }
+    ensures bits { bits_of len words.new.items ≡ bits_of len words.old.items }
+    ensures holds { HoldsBits len words.new.items }
+{
+    words.truncate(len.div_ceil(64));
+    clear_spare(words, len);
+}
+
+// Makes room for a bit behind the first `len`, where none is set yet. Where memory is wanting, nothing has changed.
+fn make_room(words: &mut Vec<u64>, len: usize) -> Result<(), AllocError>
+    requires { HoldsBits len words.old.items }
+    ensures bits { OnOk result (bits_of len words.new.items ≡ bits_of len words.old.items) }
+    ensures unset { OnOk result (word_bit words.new.items len ≡ false) }
+    ensures holds { OnOk result (HoldsBits (len + 1) words.new.items) }
+    ensures kept { OnErr result (words.new.items ≡ words.old.items) }
+{
+    if len % 64 != 0 {
+        return Ok(());
+    }
+    words.push(0)?;
+    Ok(())
+}
+
+// Puts a bit behind the first `len`, where there is room for it.
+fn put_bit(words: &mut [u64], len: usize, bit: bool)
+    requires holds { HoldsBits (len + 1) words.old }
+    requires unset { word_bit words.old len ≡ false }
+    ensures put { bits_of (len + 1) words.new ≡ bits_of len words.old ++ bit ∷ [] }
+    ensures holds { HoldsBits (len + 1) words.new }
+{
+    words[len / 64] |= (bit as u64) << (len % 64);
+}
+
+// Puts a bit behind the first `len`. Where memory is wanting, nothing has changed.
+pub(crate) fn push_bit(words: &mut Vec<u64>, len: usize, bit: bool) -> Result<(), AllocError>
+    requires { HoldsBits len words.old.items }
+    ensures pushed { OnOk result (bits_of (len + 1) words.new.items ≡ bits_of len words.old.items ++ bit ∷ []) }
+    ensures holds { OnOk result (HoldsBits (len + 1) words.new.items) }
+    ensures kept { OnErr result (words.new.items ≡ words.old.items) }
+{
+    make_room(words, len)?;
+    put_bit(words, len, bit);
+    Ok(())
 }
 
 // Sets the bits at the places.

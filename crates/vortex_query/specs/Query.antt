@@ -3,7 +3,7 @@ use Rattle.std.specs.Prelude.{◌≡◌, ◌⊎◌, ◌==◌, ℕ, List, [], ◌
 use Rattle.std.specs.declared.alloc.Global.{Global}
 use Rattle.std.specs.Str.{bytes_eq}
 use Rattle.std.specs.Io.KnownBytes.{Appends}
-use Rattle.vortex_streams.specs.Faults.{Faulted}
+use Rattle.vortex_buffer.specs.Counts.{Faulted}
 use Rattle.vortex_streams.specs.Known.{AppendsFront}
 use Rattle.vortex_array_types.specs.Cells.{Row}
 use Rattle.vortex_table.specs.declared.scan.request.ScanRequest.{ScanRequest}

@@ -1,7 +1,7 @@
 -- What each part of the program is refused for.
 use Rattle.std.specs.Prelude.{◌≡◌, ◌⊎◌, ℕ, List, Option, Some, None, IfSome, IsSome, Result, Err, String, ⊤}
 use Rattle.std.specs.declared.alloc.Global.{Global}
-use Rattle.vortex_streams.specs.Faults.{Faulted}
+use Rattle.vortex_buffer.specs.Counts.{Faulted}
 use Rattle.vortex_array_types.specs.declared.column.ColumnDesc.{ColumnDesc}
 use Rattle.vortex_table.specs.declared.scan.request.ScanRequest.{ScanRequest}
 use Rattle.vortex_table.specs.Valid.{first_unknown}

@@ -6,7 +6,7 @@ ghost use Rattle.vortex_query.specs.Query.{Answered, Ends, IsOneOf, Says, Shows,
 ghost use Rattle.vortex_query.specs.Refused.{IsSpelledRequest, IsSpelledTable, RefusesAsked, RefusesInput, RefusesRequest, RefusesScan, RefusesWords, status_of};
 ghost use Rattle.vortex_query.specs.Spelled.{table_seen};
 ghost use Rattle.vortex_query.specs.declared.program.refusal.Refusal.TheVariants.{NotBuilt, ReadFailed, WriteFailed};
-ghost use Rattle.vortex_streams.specs.Faults.{Faulted};
+ghost use Rattle.vortex_buffer.specs.Counts.{Faulted};
 ghost use Rattle.vortex_streams.specs.Known.{AppendsFront};
 ghost use Rattle.vortex_table.specs.Answers.{Answers};
 ghost use Rattle.vortex_table.specs.Given.{contents_of, given, question};

@@ -51,7 +51,7 @@ impl ByteSource for MemoryInput {
     ghost use Rattle.std.specs.Prelude.{min};
     ghost use Rattle.std.specs.Result.{is_err};
     ghost use Rattle.std.specs.Io.KnownBytes.{ReadConsumes};
-    ghost use Rattle.vortex_streams.specs.Faults.{HasCause, one_more};
+    ghost use Rattle.vortex_buffer.specs.Counts.{HasCause, one_more};
     ghost use Rattle.vortex_streams.specs.Memory.{is_listed};
 
     ghost left = { λ input. Some input.left };
@@ -140,7 +140,7 @@ impl ByteSink for MemoryOutput {
     ghost use Rattle.std.specs.Prelude.{min};
     ghost use Rattle.std.specs.Result.{is_err};
     ghost use Rattle.std.specs.Io.KnownBytes.{WriteAppends};
-    ghost use Rattle.vortex_streams.specs.Faults.{HasCause, one_more};
+    ghost use Rattle.vortex_buffer.specs.Counts.{HasCause, one_more};
     ghost use Rattle.vortex_streams.specs.Memory.{is_refused};
 
     ghost taken = { λ output. Some output.taken };

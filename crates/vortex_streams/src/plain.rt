@@ -42,7 +42,7 @@ impl PlainInput {
 impl ByteSource for PlainInput {
     ghost use Rattle.std.specs.Prelude.{min};
     ghost use Rattle.std.specs.Io.KnownBytes.{ReadConsumes};
-    ghost use Rattle.vortex_streams.specs.Faults.{HasCause};
+    ghost use Rattle.vortex_buffer.specs.Counts.{HasCause};
 
     ghost left = { λ input. Some input };
 

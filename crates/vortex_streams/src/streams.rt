@@ -1,7 +1,7 @@
 // The traits of streams.
 ghost use Rattle.std.specs.Prelude.{◌≡◌, ◌≤◌, ◌<◌, ℕ, List, Option, length, IfOk};
 ghost use Rattle.std.specs.Io.KnownBytes.{ReadConsumes, WriteAppends};
-ghost use Rattle.vortex_streams.specs.Faults.{HasCause};
+ghost use Rattle.vortex_buffer.specs.Counts.{HasCause};
 
 use thiserror::Error;
 

@@ -39,7 +39,7 @@ impl<R: Read> StdInput<R> {
 
 impl<R: Read> ByteSource for StdInput<R> {
     ghost use Rattle.std.specs.Result.{is_err};
-    ghost use Rattle.vortex_streams.specs.Faults.{HasCause, one_more};
+    ghost use Rattle.vortex_buffer.specs.Counts.{HasCause, one_more};
 
     ghost left = { λ _. None };
 
@@ -97,7 +97,7 @@ impl<W: Write> StdOutput<W> {
 
 impl<W: Write> ByteSink for StdOutput<W> {
     ghost use Rattle.std.specs.Result.{is_err};
-    ghost use Rattle.vortex_streams.specs.Faults.{HasCause, one_more};
+    ghost use Rattle.vortex_buffer.specs.Counts.{HasCause, one_more};
 
     ghost taken = { λ _. None };
 

@@ -2,7 +2,7 @@
 ghost use Rattle.std.specs.Prelude.{◌≡◌, ◌≤◌, ◌<◌, length, IfOk, OnOk, OnErr, IsErrOf, IfSome};
 ghost use Rattle.std.specs.Io.KnownBytes.{Appends, IsAtEnd};
 ghost use Rattle.std.specs.Vec.{vec_len};
-ghost use Rattle.vortex_streams.specs.Faults.{Faulted, HasCause};
+ghost use Rattle.vortex_buffer.specs.Counts.{Faulted, HasCause};
 ghost use Rattle.vortex_streams.specs.Known.{AppendsFront, ConsumesFront, ConsumesMoreThan};
 ghost use Rattle.vortex_streams.specs.declared.whole.ReadError.TheVariants.{ReadFault, TooLong};
 

@@ -1,5 +1,5 @@
 -- The batches of an answer, read row by row, are the rows that they stand for.
-use Rattle.std.proofs.Common.{◌≡◌, ◌∙◌, sym, ap, refl, subst, ℕ, zero, suc, ◌+◌, List, [], ◌∷◌, ◌++◌, Bool, true, false, cond, not, length, take, map, arith, add-one}
+use Rattle.std.proofs.Common.{◌≡◌, ◌∙◌, sym, ap, refl, ℕ, zero, suc, ◌+◌, List, [], ◌∷◌, ◌++◌, Bool, true, false, cond, not, length, take, map, arith, add-one}
 use Rattle.std.specs.Prelude.{Option, Some, None, is_some, find, filter, flat_map, slice_get, unwrap_or}
 use Rattle.std.specs.List.{cons_option, enumerate_from, filter_map, range_with_len}
 use Rattle.std.specs.Str.{bytes_eq}

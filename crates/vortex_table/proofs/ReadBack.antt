@@ -7,7 +7,7 @@ use Rattle.vortex_array_types.specs.declared.scalar.Value.{Value}
 use Rattle.vortex_array_types.specs.declared.scalar.Value.TheVariants as value
 use Rattle.vortex_array_types.specs.declared.types.DType.TheVariants as dtype
 use Rattle.vortex_array_types.specs.Row.{Column, fits_column, fits_type}
-use Rattle.vortex_array_kinds.specs.declared.primitive.PrimitiveBuffer.{PrimitiveBuffer}
+use Rattle.vortex_array_kinds.specs.declared.primitives.PrimitiveBuffer.{PrimitiveBuffer}
 use Rattle.vortex_array_kinds.specs.declared.validity.Validity.{Validity}
 use Rattle.vortex_array_kinds.specs.declared.validity.Validity.TheVariants.{NonNullable, AllValid, AllInvalid, Bits}
 use Rattle.vortex_array_kinds.specs.Kinds.{nullability_of, numbers_of, primitive_column, ptype_of}

@@ -1,5 +1,5 @@
 -- The forms of tables and requests that a scan answers today.
-use Rattle.std.specs.Prelude.{◌≡◌, ℕ, ◌&&◌, List, [], ◌∷◌, length, nat_le, Bool, true, false, Option, Some, None, is_some, is_none, find, not, ⊤}
+use Rattle.std.specs.Prelude.{◌≡◌, ◌≢◌, ◌&&◌, List, [], ◌∷◌, length, nat_le, Bool, true, false, Option, Some, None, is_none, ⊤}
 use Rattle.vortex_array_types.specs.declared.types.PType.TheVariants.{U64}
 use Rattle.vortex_array_types.specs.declared.types.Nullability.TheVariants.{NonNullable}
 use Rattle.vortex_array_types.specs.declared.types.DType.{DType}
@@ -9,8 +9,7 @@ use Rattle.vortex_array_types.specs.declared.filter.Operand.{Operand}
 use Rattle.vortex_array_types.specs.declared.filter.Operand.TheVariants.{Column, Constant}
 use Rattle.vortex_array_types.specs.declared.filter.Filter.{Filter, fold-Filter}
 use Rattle.vortex_array_types.specs.declared.filter.Filter.TheOpen.{Filter-F}
-use Rattle.vortex_array_types.specs.Cells.{dtype_of}
-use Rattle.vortex_array_types.specs.Typed.{filter_names}
+use Rattle.vortex_array_types.specs.Checked.{unknown_in}
 use Rattle.vortex_table.specs.State.{TableState}
 use Rattle.vortex_table.specs.Valid.{first_unknown}
 use Rattle.vortex_table.specs.declared.errors.ScanError.{ScanError}
@@ -78,12 +77,8 @@ is_unlimited request =
 abbrev pub is_built : List ColumnDesc → List PartitionDesc → ScanRequest → Bool
 is_built columns partitions request = nat_le (length partitions) 1 && is_one_u64 columns && is_unlimited request && is_comparison request.filter
 
--- the first name of a filter that is not the table's
-abbrev pub unknown_in : List ColumnDesc → Option Filter → Option (List ℕ)
-unknown_in columns filter = find (λ name. not (is_some (dtype_of columns name))) (filter_names filter)
-
 -- a refusal by a name: the first of the filter that is not the table's
-abbrev pub UnknownIn : List ColumnDesc → Option Filter → ScanError → Type 0
+abbrev pub UnknownIn : List ColumnDesc → Filter → ScanError → Type 0
 UnknownIn columns filter NotBuilt = ⊥
 UnknownIn columns filter (InvalidRequest name) = unknown_in columns filter ≡ Some name
 UnknownIn columns filter OutOfMemory = ⊤
@@ -94,8 +89,8 @@ HasCause columns partitions request NotBuilt = is_built columns partitions reque
 HasCause columns partitions request (InvalidRequest name) = (is_built columns partitions request ≡ true) × (first_unknown columns request ≡ Some name)
 HasCause columns partitions request OutOfMemory = ⊤
 
--- a refusal by form or by name leaves the whole table as it was
-abbrev pub ChangesNothing : {S : Type 0} → TableState S → TableState S → ScanError → Type 0
-ChangesNothing old new NotBuilt = new ≡ old
-ChangesNothing old new (InvalidRequest name) = new ≡ old
-ChangesNothing old new OutOfMemory = ⊤
+-- a refusal by form or by name leaves the whole table as it was, and so does want of memory where a name is unknown
+abbrev pub ChangesNothing : {S : Type 0} → ScanRequest → TableState S → TableState S → ScanError → Type 0
+ChangesNothing request old new NotBuilt = new ≡ old
+ChangesNothing request old new (InvalidRequest name) = new ≡ old
+ChangesNothing request old new OutOfMemory = first_unknown old.columns request ≢ None → new ≡ old

@@ -1,7 +1,6 @@
 -- The list L of the chosen rows of a table.
-use Rattle.std.specs.Prelude.{ℕ, ◌-◌, ◌==◌, List, map, ◌++◌, filter, flat_map, Bool, ◌&&◌}
-use Rattle.std.specs.Str.{bytes_eq}
-use Rattle.std.specs.List.{enumerate_from, filter_map, range_with_len, list_any}
+use Rattle.std.specs.Prelude.{ℕ, ◌==◌, List, map, filter, flat_map, Bool, ◌&&◌}
+use Rattle.std.specs.List.{enumerate_from, filter_map}
 use Rattle.vortex_array_types.specs.declared.types.DType.{DType}
 use Rattle.vortex_array_types.specs.declared.column.ColumnDesc.{ColumnDesc}
 use Rattle.vortex_table.specs.declared.scan.batch.WorkScope.{WorkScope}
@@ -11,7 +10,6 @@ use Rattle.vortex_table.specs.declared.scan.request.ScanRequest.{ScanRequest}
 use Rattle.vortex_table.specs.Members.{in_selection, in_range, in_some_range}
 use Rattle.vortex_array_types.specs.Truth.{keeps}
 use Rattle.vortex_array_types.specs.Cells.{Row, cell_of, dtype_of}
-use Rattle.vortex_array_types.specs.Typed.{filter_names}
 use Rattle.vortex_table.specs.Table.{Decoded}
 
 -- a row and its place
@@ -56,14 +54,6 @@ all_rows partitions = flat_map (λ x. placed_rows x.0 x.1) (enumerate_from 0 par
 -- L
 abbrev pub chosen : ScanRequest → Decoded → List Placed
 chosen request table = map (projected table.columns request.projection) (filter (is_chosen request table.columns) (all_rows table.partitions))
-
--- the split has a selected row
-abbrev pub is_live : ScanRequest → WorkScope → Bool
-is_live request scope = list_any (is_selected request scope.file_ordinal) (range_with_len scope.rows.start (scope.rows.end - scope.rows.start))
-
--- the projection or the filter names the column
-abbrev pub is_needed : ScanRequest → List ColumnDesc → List ℕ → Bool
-is_needed request columns name = list_any (bytes_eq name) (projected_names columns request.projection ++ filter_names request.filter)
 
 -- the row lies in the split with this scope
 abbrev pub lies_in : WorkScope → Placed → Bool

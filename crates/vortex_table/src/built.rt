@@ -1,11 +1,12 @@
 // The forms of tables and requests that a scan answers today, and what they keep of a row.
 ghost use Rattle.std.specs.Prelude.{◌≡◌, ◌≤◌, ◌∷◌, [], length, ◌↔◌, ℕ, List, Option, pos, None, true, IfErr, IfOk, IfSome, OnOk, IsTrue, Some, is_some};
 ghost use Rattle.vortex_array_types.specs.Cells.{cell_of};
+ghost use Rattle.vortex_array_types.specs.Checked.{unknown_in};
 ghost use Rattle.vortex_array_types.specs.Typed.{filter_names};
 ghost use Rattle.vortex_array_types.specs.Truth.{keeps};
 ghost use Rattle.vortex_array_types.specs.declared.scalar.Value.TheVariants.{Int};
 ghost use Rattle.vortex_array_types.specs.declared.scalar.Value.{Value as ArrayValue};
-ghost use Rattle.vortex_table.specs.Built.{HasCause, UnknownIn, is_built as is_built_form, is_one_u64, is_u64 as is_u64_type, is_unlimited as is_unlimited_request, is_comparison, is_whole as is_whole_projection, selects_all as selects_all_places, unknown_in};
+ghost use Rattle.vortex_table.specs.Built.{HasCause, UnknownIn, is_built as is_built_form, is_one_u64, is_u64 as is_u64_type, is_unlimited as is_unlimited_request, is_comparison, is_whole as is_whole_projection, selects_all as selects_all_places};
 ghost use Rattle.vortex_table.specs.Valid.{first_unknown};
 ghost use Rattle.vortex_table.specs.Kept.{passes};
 
@@ -137,9 +138,9 @@ fn keep_in(
 ) -> Result<Option<Comparison>, ScanError>
     requires column { is_one_u64 columns.now ≡ true }
     requires form { is_comparison (Some filter.now) ≡ true }
-    ensures known { OnOk result (unknown_in columns.now (Some filter.now) ≡ None) }
+    ensures known { OnOk result (unknown_in columns.now filter.now ≡ None) }
     ensures keeps { IfOk result (λ keep. (n : ℕ) → passes keep n ≡ keeps (Some filter.now) (cell_of columns.now (Some (Int (pos n)) ∷ []))) }
-    ensures unknown { IfErr result (UnknownIn columns.now (Some filter.now)) }
+    ensures unknown { IfErr result (UnknownIn columns.now filter.now) }
 {
     let Some((name, comparison)) = comparison_in(filter) else {
         unreachable!()

@@ -19,9 +19,7 @@ use crate::describe::{PartitionDesc, SplitDesc};
 use crate::numbers::{lent_numbers, read_numbers};
 use crate::scan::{Batch, Place, RootId, WorkScope};
 use std::alloc::{AllocError, Global};
-use vortex_array::{
-    Array, CompareOperator, PrimitiveArray, PrimitiveBuffer, RecordBatch, Validity,
-};
+use vortex_array::{Array, CompareOperator, PlainArray, PrimitiveBuffer, RecordBatch, Validity};
 use vortex_buffer::Buffer;
 use vortex_io::{
     Completion, IoBatch, IoError, IoIntent, IoOwnerId, IoRequest, IoRequestId, IoResult, IoSource,
@@ -205,10 +203,7 @@ fn record_of(alloc: Global, kept: Vec<u64>) -> Result<RecordBatch, AllocError>
 {
     let rows = kept.as_slice().len();
     let values = PrimitiveBuffer::U64(Buffer::from_vec(kept));
-    let array = match PrimitiveArray::try_new(values, Validity::NonNullable) {
-        Ok(array) => Array::Primitive(array),
-        Err(_) => unreachable!(),
-    };
+    let array = Array::Primitive(PlainArray::new(values, Validity::NonNullable));
     let mut columns = Vec::new(alloc);
     columns.push(array)?;
     match RecordBatch::try_new(rows, columns) {

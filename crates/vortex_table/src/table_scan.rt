@@ -26,7 +26,8 @@ use vortex_io::MemorySource;
 ///
 /// All chunks are asked for before the first wait, and none of a split without rows. Whatever the answer,
 /// the table stays as it was described, and nothing is outstanding at its sources. A refusal by form or by
-/// name comes before anything is asked for.
+/// name comes before anything is asked for, and nothing is ever asked for a request with an unknown name, also where
+/// memory runs out.
 ///
 /// `steps` bounds no answer of the forms that are built today.
 pub fn scan_table(
@@ -42,7 +43,7 @@ pub fn scan_table(
     ensures built { OnOk result (is_built table.old.columns table.old.partitions request.now ≡ true) }
     ensures known { OnOk result (first_unknown table.old.columns request.now ≡ None) }
     ensures cause { IfErr result (HasCause table.old.columns table.old.partitions request.now) }
-    ensures unfetched { IfErr result (ChangesNothing table.old table.new) }
+    ensures unfetched { IfErr result (ChangesNothing request.now table.old table.new) }
     ensures fetched { OnOk result (map (λ (s : MemoryState Chunk). s.journal) table.new.sources ≡ journals_after table.old.partitions table.old.sources) }
     ensures columns { table.new.columns ≡ table.old.columns }
     ensures partitions { table.new.partitions ≡ table.old.partitions }

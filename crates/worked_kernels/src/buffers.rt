@@ -1,5 +1,5 @@
 // Buffers, items and bits.
-use crate::samples::{BOTH, HALF, LENGTHS, NONE, NOT_HALF, OTHER, are_words, bits_of};
+use crate::samples::{BOTH, HALF, LENGTHS, NONE, NOT_HALF, OTHER, are_words, bit, bits_of};
 use std::alloc::Global;
 use vortex_buffer::{BitBuffer, Buffer, Items};
 
@@ -88,6 +88,49 @@ fn bits_are_held(alloc: Global, len: usize) -> bool {
         Err(_) => false,
     };
     none && half
+}
+
+// Puts the bits of `HALF` between two places behind others.
+fn push_half(bits: &mut BitBuffer, from: usize, to: usize) -> bool {
+    for i in from..to {
+        if bits.push(bit(&HALF, i)).is_err() {
+            return false;
+        }
+    }
+    true
+}
+
+fn keeps_first(bits: &mut BitBuffer, kept: usize) -> bool {
+    if kept > bits.len() {
+        return false;
+    }
+    bits.truncate(kept);
+    are_words(bits, &HALF, kept)
+}
+
+// Whether bits are pushed one by one, kept up to a place, and pushed again from there on.
+fn bits_grow(alloc: Global, len: usize, kept: usize) -> bool {
+    match BitBuffer::new_unset(alloc, 0) {
+        Ok(mut bits) => {
+            push_half(&mut bits, 0, len)
+                && are_words(&bits, &HALF, len)
+                && keeps_first(&mut bits, kept)
+                && push_half(&mut bits, kept, len)
+                && are_words(&bits, &HALF, len)
+        }
+        Err(_) => false,
+    }
+}
+
+#[test]
+fn bits_are_pushed_and_kept_about_the_ends_of_words(rt: HostRuntime) {
+    for len in LENGTHS {
+        for kept in LENGTHS {
+            if kept <= len {
+                assert!(rt; bits_grow(rt.alloc(), len, kept), "{kept} of {len} bits");
+            }
+        }
+    }
 }
 
 #[test]

@@ -1,7 +1,7 @@
 // Lists of bytes that are pushed, copied, cut out, kept and taken.
 use crate::samples::{ALL, HALF, NONE, mask_of, places_from, set_places};
 use std::alloc::{AllocError, Global};
-use vortex_array_rows::{ByteLists, places_below, set_places_below};
+use vortex_array_rows::{ByteLists, front_of, places_below, set_places_below};
 use vortex_buffer::{BitBuffer, Mask};
 
 // So many lists of none to three bytes.
@@ -110,6 +110,56 @@ fn takes(alloc: Global, lists: &ByteLists, valid: &BitBuffer) -> bool {
 pub(crate) fn are_taken(alloc: Global, valid: &BitBuffer) -> bool {
     match short_lists(alloc, 4) {
         Ok(lists) => takes(alloc, &lists, valid),
+        Err(_) => false,
+    }
+}
+
+// Lists of bytes, each before the next one: they end, differ or go on within the first eight bytes, at their end or behind it.
+const ASCENDING: [&str; 15] = [
+    "",
+    "\0",
+    "\0\0\0\0\0\0\0\0",
+    "\0\0\0\0\0\0\0\0\0",
+    "a",
+    "a\0",
+    "east",
+    "northeast",
+    "northeastern",
+    "northwes",
+    "northwest",
+    "northwestern",
+    "northwestern parts",
+    "west",
+    "\u{ff}",
+];
+
+fn ascending(alloc: Global) -> Result<ByteLists, AllocError> {
+    let mut lists = ByteLists::new(alloc);
+    for text in ASCENDING.iter() {
+        lists.push(text.as_bytes())?;
+    }
+    Ok(lists)
+}
+
+// Whether list `i` stands to list `j` and to its bytes as their places do.
+fn stands(lists: &ByteLists, i: usize, j: usize) -> bool {
+    if i >= lists.len() || j >= lists.len() {
+        return false;
+    }
+    let other = lists.get(j);
+    let front = front_of(other);
+    let order = i.cmp(&j);
+    lists.front(j) == front
+        && lists.compare(i, lists, j) == order
+        && lists.compare_with(i, other, front) == order
+        && lists.equals(i, lists, j) == (i == j)
+        && lists.equals_with(i, other, front) == (i == j)
+}
+
+/// Whether two lists of bytes of which each stands before the next stand as their places do.
+pub(crate) fn stand(alloc: Global, i: usize, j: usize) -> bool {
+    match ascending(alloc) {
+        Ok(lists) => lists.len() == 15 && stands(&lists, i, j),
         Err(_) => false,
     }
 }

@@ -184,3 +184,12 @@ fn rows_are_cut_kept_taken_and_found(rt: HostRuntime) {
         assert!(rt; finds(alloc, words, *len, *want), "{len} bits");
     }
 }
+
+#[test]
+fn lists_stand_as_their_bytes_do(rt: HostRuntime) {
+    for i in 0..15usize {
+        for j in 0..15usize {
+            assert!(rt; lists::stand(rt.alloc(), i, j), "list {i} and list {j}");
+        }
+    }
+}

@@ -7,7 +7,7 @@ ghost use Rattle.vortex_table.specs.ChunkOf.{chunk_column, content_of};
 ghost use Rattle.vortex_table.specs.Given.{contents_of};
 
 use std::alloc::{AllocError, Global};
-use vortex_array::{Array, DType, Nullability, PType, PrimitiveArray, PrimitiveBuffer, Validity};
+use vortex_array::{Array, DType, Nullability, PType, PlainArray, PrimitiveBuffer, Validity};
 use vortex_buffer::{Buffer, Items};
 use vortex_io::{Arrive, MemorySource, Order};
 use vortex_table::{Chunk, ChunkDesc, PartitionDesc, SplitDesc};
@@ -96,10 +96,7 @@ fn chunk(alloc: Global, numbers: &[u64]) -> Result<Vec<Chunk>, AllocError>
     ensures { IfOk result (λ chunks. map chunk_column chunks.items ≡ numbers_column numbers.now ∷ []) }
 {
     let values = PrimitiveBuffer::U64(Buffer::from_slice(alloc, numbers)?);
-    let array = match PrimitiveArray::try_new(values, Validity::NonNullable) {
-        Ok(array) => array,
-        Err(_) => unreachable!(),
-    };
+    let array = PlainArray::new(values, Validity::NonNullable);
     let mut chunks = Vec::new(alloc);
     chunks.push(Chunk::Plain(Array::Primitive(array)))?;
     Ok(chunks)

@@ -7,7 +7,7 @@ use Rattle.vortex_array_types.specs.declared.scalar.Value.TheVariants as value
 use Rattle.vortex_array_types.specs.declared.types.Nullability.{Nullability}
 use Rattle.vortex_array_types.specs.declared.types.Nullability.TheVariants as nulls
 use Rattle.vortex_array_kinds.specs.Truths.{either, truths}
-use Rattle.vortex_array.proofs.Compared.{equal-some, equal-null}
+use Rattle.vortex_array_compare.proofs.Equal.{equal-some, equal-null}
 use Rattle.vortex_array.proofs.like.equal_text_like_one.Goals as goal
 
 pub returns-in-Some : goal.returns-in-Some

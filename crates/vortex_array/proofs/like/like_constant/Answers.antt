@@ -5,7 +5,7 @@ use Rattle.vortex_array_types.specs.Truth.{is_like}
 use Rattle.vortex_array_types.specs.declared.types.Nullability.TheVariants as nulls
 use Rattle.vortex_array_kinds.specs.Truths.{truths}
 use Rattle.vortex_array.specs.ColumnOf.{column_of}
-use Rattle.vortex_array.proofs.Compared.{constant-null}
+use Rattle.vortex_array_compare.proofs.Equal.{constant-null}
 use Rattle.vortex_array.proofs.like.like_constant.Goals as goal
 
 pub returns-in-None : goal.returns-in-None

@@ -10,4 +10,4 @@ returns g c =
     c.in_ok-part.ensures.column
     ∙ ap (λ (whole : Column). taken (index_column c.args.nulls.now (map (λ i. i) c.as_slice.result.now)) whole) c.in_ok-row.ensures.column
     ∙ rw (c.as_slice.ensures.value, c.in_ok-first.ensures, c.scalar.ensures)
-    (one-taken-by g.P.RowIndex.place c.args.array.now.scalar c.args.array.now.len c.args.nulls.now c.args.places.now c.requires.within)
+    (one-taken-by g.P.RowIndex.place c.args.array.now.scalar c.args.array.now.len c.args.nulls.now c.args.places.now c.requires.long c.requires.within)

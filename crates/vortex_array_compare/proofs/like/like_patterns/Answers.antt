@@ -1,56 +1,47 @@
-use Rattle.std.proofs.Common.{◌∙◌, ◌≡◌, sym, ap, length}
-use Rattle.std.proofs.lemmas.Simd.{length-zip2}
+use Rattle.std.proofs.Common.{◌∙◌, ◌≡◌, length, sym}
+use Rattle.std.specs.Simd.Lanes.{zip2}
 use Rattle.vortex_array_types.specs.Matches.{matches}
-use Rattle.vortex_array_compare.proofs.ListSides.{list-parts, length-lists, long-lists}
-use Rattle.vortex_array_compare.proofs.Likes.{texts-liked}
+use Rattle.vortex_array_types.specs.Truth.{is_like}
+use Rattle.vortex_array_kinds.specs.StringValues.{strings_of}
+use Rattle.vortex_array_kinds.specs.Truths.{BothValid}
+use Rattle.vortex_array_kinds.specs.Validities.{nullability_of}
+use Rattle.vortex_array_compare.proofs.Likes.{like-values, string-laws, text-kind, text-lists}
+use Rattle.vortex_array_compare.proofs.Tested.{long-each, plain-tested, same-count}
 use Rattle.vortex_array_compare.proofs.like.like_patterns.Goals as goal
-
-pub validity_of_rows-requires : goal.validity_of_rows-requires
-validity_of_rows-requires c = rw c.dtype.ensures.value c.parts-text_parts.ensures.holds.nulls
-
-pub validity_of_rows-requires-2 : goal.validity_of_rows-requires-2
-validity_of_rows-requires-2 c = rw c.dtype-2.ensures.value c.parts-pattern_parts.ensures.holds.nulls
 
 pub pair_bits-requires-clause-same_length : goal.pair_bits-requires-clause-same_length
 pair_bits-requires-clause-same_length c =
-    let same : length c.parts-text_parts.result.lists.now ≡ length c.parts-pattern_parts.result.lists.now =
-    sym (length-lists c.args.texts.now c.parts-text_parts.result.lists.now c.parts-text_parts.result.present.now c.parts-text_parts.ensures.rows c.parts-text_parts.ensures.holds)
-    ∙ c.requires.same_length
-    ∙ length-lists c.args.patterns.now c.parts-pattern_parts.result.lists.now c.parts-pattern_parts.result.present.now c.parts-pattern_parts.ensures.rows c.parts-pattern_parts.ensures.holds
-    in
-    same
+    rw (c.lists.ensures.value, c.lists-2.ensures.value, c.strings.ensures.value, c.strings-2.ensures.value)
+    (same-count _ _ _ string-laws c.args.texts.now c.args.patterns.now c.strings.ensures.fits c.strings-2.ensures.fits c.requires.same_length)
 
 pub pair_bits-requires-clause-texts : goal.pair_bits-requires-clause-texts
-pair_bits-requires-clause-texts c = c.parts-text_parts.ensures.holds.text c.requires.texts
+pair_bits-requires-clause-texts c =
+    let a = c.args.texts.now in
+    rw (c.lists.ensures.value, c.strings.ensures.value) (text-lists a.values (text-kind a.values.kind (nullability_of a.validity) c.requires.texts) (rw c.strings.ensures.value at c.lists.ensures.texts))
 
 pub pair_bits-requires-clause-patterns : goal.pair_bits-requires-clause-patterns
-pair_bits-requires-clause-patterns c = c.parts-pattern_parts.ensures.holds.text c.requires.patterns
+pair_bits-requires-clause-patterns c =
+    let b = c.args.patterns.now in
+    rw (c.lists-2.ensures.value, c.strings-2.ensures.value) (text-lists b.values (text-kind b.values.kind (nullability_of b.validity) c.requires.patterns) (rw c.strings-2.ensures.value at c.lists-2.ensures.texts))
 
-pub answer_column-requires-clause-left : goal.answer_column-requires-clause-left
-answer_column-requires-clause-left c =
-    let same : length c.parts-text_parts.result.lists.now ≡ length c.parts-pattern_parts.result.lists.now =
-    sym (length-lists c.args.texts.now c.parts-text_parts.result.lists.now c.parts-text_parts.result.present.now c.parts-text_parts.ensures.rows c.parts-text_parts.ensures.holds)
-    ∙ c.requires.same_length
-    ∙ length-lists c.args.patterns.now c.parts-pattern_parts.result.lists.now c.parts-pattern_parts.result.present.now c.parts-pattern_parts.ensures.rows c.parts-pattern_parts.ensures.holds
-    in
-    let long : length c.in_ok-bits.bits ≡ length c.parts-text_parts.result.lists.now = ap length c.in_ok-bits.ensures ∙ length-zip2 (λ text pattern. matches pattern text) c.parts-text_parts.result.lists.now c.parts-pattern_parts.result.lists.now same in
-    let parts = list-parts c.args.texts.now c.parts-text_parts.result.lists.now c.parts-text_parts.result.present.now c.in_ok-text_validity.text_validity c.dtype.result c.parts-text_parts.ensures.rows c.parts-text_parts.ensures.holds c.dtype.ensures.value c.in_ok-text_validity.ensures.long c.in_ok-text_validity.ensures.present c.in_ok-text_validity.ensures.nulls in
-    rw long (long-lists c.args.texts.now c.parts-text_parts.result.lists.now c.parts-text_parts.result.present.now c.in_ok-text_validity.text_validity parts)
-
-pub answer_column-requires-clause-right : goal.answer_column-requires-clause-right
-answer_column-requires-clause-right c =
-    let same : length c.parts-text_parts.result.lists.now ≡ length c.parts-pattern_parts.result.lists.now =
-    sym (length-lists c.args.texts.now c.parts-text_parts.result.lists.now c.parts-text_parts.result.present.now c.parts-text_parts.ensures.rows c.parts-text_parts.ensures.holds)
-    ∙ c.requires.same_length
-    ∙ length-lists c.args.patterns.now c.parts-pattern_parts.result.lists.now c.parts-pattern_parts.result.present.now c.parts-pattern_parts.ensures.rows c.parts-pattern_parts.ensures.holds
-    in
-    let long : length c.in_ok-bits.bits ≡ length c.parts-text_parts.result.lists.now = ap length c.in_ok-bits.ensures ∙ length-zip2 (λ text pattern. matches pattern text) c.parts-text_parts.result.lists.now c.parts-pattern_parts.result.lists.now same in
-    let parts = list-parts c.args.patterns.now c.parts-pattern_parts.result.lists.now c.parts-pattern_parts.result.present.now c.in_ok-pattern_validity.pattern_validity c.dtype-2.result c.parts-pattern_parts.ensures.rows c.parts-pattern_parts.ensures.holds c.dtype-2.ensures.value c.in_ok-pattern_validity.ensures.long c.in_ok-pattern_validity.ensures.present c.in_ok-pattern_validity.ensures.nulls in
-    rw (long, same) (long-lists c.args.patterns.now c.parts-pattern_parts.result.lists.now c.parts-pattern_parts.result.present.now c.in_ok-pattern_validity.pattern_validity parts)
+pub answer_column-requires : goal.answer_column-requires
+answer_column-requires c =
+    let a = c.args.texts.now in
+    let b = c.args.patterns.now in
+    let same = same-count _ _ _ string-laws a b c.strings.ensures.fits c.strings-2.ensures.fits c.requires.same_length in
+    let said : c.in_ok-bits.bits ≡ zip2 (λ text pattern. matches pattern text) a.values.lists b.values.lists = rw (c.lists.ensures.value, c.lists-2.ensures.value, c.strings.ensures.value, c.strings-2.ensures.value) at c.in_ok-bits.ensures in
+    let is = said ∙ like-values a.values b.values (text-kind a.values.kind (nullability_of a.validity) c.requires.texts) (text-kind b.values.kind (nullability_of b.validity) c.requires.patterns) in
+    record {
+      left = rw c.validity.ensures.value (long-each is_like (strings_of a.values) (strings_of b.values) (length a.values.lists) a.validity c.in_ok-bits.bits (string-laws.counted a.values) (string-laws.counted b.values ∙ sym same) is c.strings.ensures.fits);
+      right = rw c.validity-2.ensures.value (long-each is_like (strings_of a.values) (strings_of b.values) (length b.values.lists) b.validity c.in_ok-bits.bits (string-laws.counted a.values ∙ same) (string-laws.counted b.values) is c.strings-2.ensures.fits);
+    }
 
 pub returns : goal.returns
 returns c =
-    let left = list-parts c.args.texts.now c.parts-text_parts.result.lists.now c.parts-text_parts.result.present.now c.in_ok-text_validity.text_validity c.dtype.result c.parts-text_parts.ensures.rows c.parts-text_parts.ensures.holds c.dtype.ensures.value c.in_ok-text_validity.ensures.long c.in_ok-text_validity.ensures.present c.in_ok-text_validity.ensures.nulls in
-    let right = list-parts c.args.patterns.now c.parts-pattern_parts.result.lists.now c.parts-pattern_parts.result.present.now c.in_ok-pattern_validity.pattern_validity c.dtype-2.result c.parts-pattern_parts.ensures.rows c.parts-pattern_parts.ensures.holds c.dtype-2.ensures.value c.in_ok-pattern_validity.ensures.long c.in_ok-pattern_validity.ensures.present c.in_ok-pattern_validity.ensures.nulls in
-    texts-liked c.args.texts.now c.args.patterns.now c.parts-text_parts.result.lists.now c.parts-pattern_parts.result.lists.now c.parts-text_parts.result.present.now c.parts-pattern_parts.result.present.now c.in_ok-text_validity.text_validity c.in_ok-pattern_validity.pattern_validity
-    left right c.requires.texts c.requires.patterns c.requires.same_length c.in_ok-column.column (c.in_ok-column.ensures.bits ∙ c.in_ok-bits.ensures) c.in_ok-column.ensures.valid
+    let a = c.args.texts.now in
+    let b = c.args.patterns.now in
+    let answers = c.in_ok-answers.answers in
+    let said : c.in_ok-bits.bits ≡ zip2 (λ text pattern. matches pattern text) a.values.lists b.values.lists = rw (c.lists.ensures.value, c.lists-2.ensures.value, c.strings.ensures.value, c.strings-2.ensures.value) at c.in_ok-bits.ensures in
+    let is = said ∙ like-values a.values b.values (text-kind a.values.kind (nullability_of a.validity) c.requires.texts) (text-kind b.values.kind (nullability_of b.validity) c.requires.patterns) in
+    let valid : BothValid (length answers.values) a.validity b.validity answers.validity = rw (c.validity.ensures.value, c.validity-2.ensures.value) at c.in_ok-answers.ensures.valid in
+    plain-tested _ _ _ string-laws is_like a b c.strings.ensures.fits c.strings-2.ensures.fits c.requires.same_length answers (c.in_ok-answers.ensures.bits ∙ is) valid

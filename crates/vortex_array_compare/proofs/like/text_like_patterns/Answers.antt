@@ -1,29 +1,36 @@
-use Rattle.std.proofs.Common.{◌∙◌, ◌≡◌, ap, length}
-use Rattle.std.proofs.lemmas.List.{length-map}
+use Rattle.std.proofs.Common.{◌∙◌, ◌≡◌, length, map}
 use Rattle.vortex_array_types.specs.Matches.{matches}
+use Rattle.vortex_array_types.specs.Truth.{is_like}
 use Rattle.vortex_array_types.specs.declared.types.DType.TheVariants as dtype
-use Rattle.vortex_array_compare.proofs.ListSides.{list-parts, long-lists}
-use Rattle.vortex_array_compare.proofs.Likes.{patterns-beside}
+use Rattle.vortex_array_types.specs.declared.scalar.Value.TheVariants as value
+use Rattle.vortex_array_kinds.specs.StringValues.{strings_of}
+use Rattle.vortex_array_kinds.specs.Truths.{BothValid}
+use Rattle.vortex_array_kinds.specs.Validities.{nullability_of}
+use Rattle.vortex_array_compare.proofs.Likes.{string-laws, text-kind, text-lists, value-like}
+use Rattle.vortex_array_compare.proofs.Tested.{long-with, plain-beside}
 use Rattle.vortex_array_compare.proofs.like.text_like_patterns.Goals as goal
 
-pub validity_of_rows-requires : goal.validity_of_rows-requires
-validity_of_rows-requires c = rw c.dtype.ensures.value c.parts-parts.ensures.holds.nulls
-
 pub text_bits-requires : goal.text_bits-requires
-text_bits-requires c = record { patterns = c.parts-parts.ensures.holds.text c.requires.patterns }
+text_bits-requires c =
+    let b = c.args.patterns.now in
+    record { patterns = rw (c.lists.ensures.value, c.strings.ensures.value) (text-lists b.values (text-kind b.values.kind (nullability_of b.validity) c.requires.patterns) (rw c.strings.ensures.value at c.lists.ensures.texts)) }
 
 pub answer_column-requires-clause-left : goal.answer_column-requires-clause-left
-answer_column-requires-clause-left c = c.of_values-text_validity.ensures.long (length c.in_ok-bits.bits)
+answer_column-requires-clause-left c = c.of_values-nulls.ensures.long (length c.in_ok-bits.bits)
 
 pub answer_column-requires-clause-right : goal.answer_column-requires-clause-right
 answer_column-requires-clause-right c =
-    let long : length c.in_ok-bits.bits ≡ length c.parts-parts.result.lists.now = ap length c.in_ok-bits.ensures ∙ length-map c.parts-parts.result.lists.now (λ pattern. matches pattern c.args.text.now) in
-    let parts = list-parts c.args.patterns.now c.parts-parts.result.lists.now c.parts-parts.result.present.now c.in_ok-pattern_validity.pattern_validity c.dtype.result c.parts-parts.ensures.rows c.parts-parts.ensures.holds c.dtype.ensures.value c.in_ok-pattern_validity.ensures.long c.in_ok-pattern_validity.ensures.present c.in_ok-pattern_validity.ensures.nulls in
-    rw long (long-lists c.args.patterns.now c.parts-parts.result.lists.now c.parts-parts.result.present.now c.in_ok-pattern_validity.pattern_validity parts)
+    let b = c.args.patterns.now in
+    let said : c.in_ok-bits.bits ≡ map (λ pattern. matches pattern c.args.text.now) b.values.lists = rw (c.lists.ensures.value, c.strings.ensures.value) at c.in_ok-bits.ensures in
+    let is = said ∙ value-like c.args.text.now b.values (text-kind b.values.kind (nullability_of b.validity) c.requires.patterns) in
+    rw c.validity.ensures.value (long-with (is_like (value.Utf8 c.args.text.now)) (strings_of b.values) (length b.values.lists) b.validity c.in_ok-bits.bits (string-laws.counted b.values) is c.strings.ensures.fits)
 
 pub returns : goal.returns
 returns c =
-    let parts = list-parts c.args.patterns.now c.parts-parts.result.lists.now c.parts-parts.result.present.now c.in_ok-pattern_validity.pattern_validity c.dtype.result c.parts-parts.ensures.rows c.parts-parts.ensures.holds c.dtype.ensures.value c.in_ok-pattern_validity.ensures.long c.in_ok-pattern_validity.ensures.present c.in_ok-pattern_validity.ensures.nulls in
-    patterns-beside c.args.patterns.now c.parts-parts.result.lists.now c.parts-parts.result.present.now c.in_ok-pattern_validity.pattern_validity parts c.requires.patterns
-    (dtype.Utf8 c.args.nullability) c.of_values-text_validity.result c.of_values-text_validity.ensures.present c.of_values-text_validity.ensures.long c.of_values-text_validity.ensures.kind c.args.text.now
-    c.in_ok-column.column (c.in_ok-column.ensures.bits ∙ c.in_ok-bits.ensures) c.in_ok-column.ensures.valid
+    let b = c.args.patterns.now in
+    let answers = c.in_ok-answers.answers in
+    let said : c.in_ok-bits.bits ≡ map (λ pattern. matches pattern c.args.text.now) b.values.lists = rw (c.lists.ensures.value, c.strings.ensures.value) at c.in_ok-bits.ensures in
+    let is = said ∙ value-like c.args.text.now b.values (text-kind b.values.kind (nullability_of b.validity) c.requires.patterns) in
+    let valid : BothValid (length answers.values) c.of_values-nulls.result b.validity answers.validity = rw c.validity.ensures.value at c.in_ok-answers.ensures.valid in
+    plain-beside _ _ _ string-laws is_like b c.strings.ensures.fits (value.Utf8 c.args.text.now) (dtype.Utf8 c.args.nullability) c.of_values-nulls.result
+    (record { kind = c.of_values-nulls.ensures.kind; present = c.of_values-nulls.ensures.present; long = c.of_values-nulls.ensures.long }) answers (c.in_ok-answers.ensures.bits ∙ is) valid

@@ -1,7 +1,7 @@
-use Rattle.vortex_array_select.proofs.EqualRows.{equal-sliced}
+use Rattle.vortex_array_select.proofs.ConstantRows.{constant-sliced}
 use Rattle.vortex_array_select.proofs.constants.ConstantArraySelect.slice.Goals as goal
 
 pub returns : goal.returns
 returns c =
     rw (c.new.ensures, c.in_ok-scalar.ensures, c.scalar.ensures)
-    (equal-sliced c.args.self.now.scalar c.args.self.now.len c.args.start c.args.end c.requires.order c.requires.within)
+    (constant-sliced c.args.self.now.scalar c.args.self.now.len c.args.start c.args.end c.requires.order c.requires.within)

@@ -1,7 +1,0 @@
-use Rattle.std.proofs.Common.{◌∙◌, sym}
-use Rattle.std.specs.Ordering.{bool_cmp}
-use Rattle.std.proofs.lemmas.Simd.{length-zip2}
-use Rattle.vortex_array_compare.proofs.truths.BitPairsIndexedSource.len.Goals as goal
-
-pub returns : goal.returns
-returns c = c.len.ensures ∙ sym (length-zip2 bool_cmp c.args.self.now.left.now c.args.self.now.right.now c.args.self.now.same_length)

@@ -1,5 +1,0 @@
-use Rattle.vortex_array_compare.proofs.Equal.{null-column}
-use Rattle.vortex_array_compare.proofs.values.null_answers.Goals as goal
-
-pub returns : goal.returns
-returns c = null-column c.args.len c.in_ok-bits.bits c.from_parts.result c.in_ok-bits.ensures c.from_parts.ensures

@@ -1,7 +1,7 @@
 // Lists of bytes compared with one. Each function makes the lists of what is lent, asks so many times, and answers how often
 // the answer was yes. The rows asked begin one later each time, so that no answer is taken for the next.
 use std::alloc::{AllocError, Global};
-use vortex_array_rows::{ByteLists, front_of};
+use vortex_array_lists::{ByteLists, front_of};
 
 // The lists that end at these places.
 fn lists_of(alloc: Global, bytes: &[u8], ends: &[usize]) -> Result<ByteLists, AllocError> {

@@ -13,7 +13,8 @@ use std::fmt::Write;
 use std::test::Fail;
 use vortex_io::MemorySource;
 use vortex_judge::{PlainBatch, read_batch};
-use vortex_table::{Batch, Chunk, ScanError, ScanRequest, Table};
+use vortex_scan_types::{Batch, ScanRequest};
+use vortex_table::{Chunk, ScanError, Table};
 
 fn write_columns(text: &mut String, batch: &PlainBatch) -> Result<(), AllocError> {
     for column in batch.columns() {

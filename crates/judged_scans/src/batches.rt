@@ -6,7 +6,7 @@ use std::ops::Range;
 use std::test::Fail;
 use vortex_array::DType;
 use vortex_judge::{PlainBatch, PlainColumn, PlainRow, Question, answers};
-use vortex_table::WorkScope;
+use vortex_scan_types::WorkScope;
 
 fn rows_of(written: &str) -> Result<Range<u64>, Fail> {
     let (start, end) = written.split_once("..").ok_or("a split without an end")?;

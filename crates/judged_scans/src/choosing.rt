@@ -7,7 +7,7 @@ use std::fmt::Write;
 use std::test::Fail;
 use vortex_array::Value;
 use vortex_judge::{PlacedRow, chosen_rows};
-use vortex_table::ScanRequest;
+use vortex_scan_types::ScanRequest;
 
 fn write_value(text: &mut String, value: &Option<Value>) -> Result<(), AllocError> {
     match value {

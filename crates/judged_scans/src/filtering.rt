@@ -5,12 +5,13 @@ use crate::requests::{none_of, request_of};
 use std::alloc::{AllocError, Global};
 use std::test::Fail;
 use vortex_array::{Bytes, ColumnDesc, CompareOperator, Text, Value};
-use vortex_judge::{and, compares, first_unknown, matches, or, truth_of, well_typed};
-use vortex_table::ScanRequest;
+use vortex_array_predicates::text_matches;
+use vortex_judge::{and, compares, first_unknown, or, truth_of, well_typed};
+use vortex_scan_types::ScanRequest;
 
 fn match_word(given: &str) -> Result<&'static str, Fail> {
     let (pattern, text) = given.split_once('|').ok_or("a case without a text")?;
-    Ok(word(Some(matches(pattern, text))))
+    Ok(word(Some(text_matches(text, pattern))))
 }
 
 fn word(truth: Option<bool>) -> &'static str {

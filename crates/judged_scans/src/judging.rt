@@ -7,7 +7,7 @@ use std::alloc::Global;
 use std::test::Fail;
 use vortex_array::DType;
 use vortex_judge::Question;
-use vortex_table::WorkScope;
+use vortex_scan_types::WorkScope;
 
 fn scopes_of(alloc: Global, written: &str) -> Result<Vec<WorkScope>, Fail> {
     let mut scopes = Vec::new(alloc);

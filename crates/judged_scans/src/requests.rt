@@ -11,7 +11,7 @@ use vortex_array::{
     BetweenOptions, CompareOperator, Filter, Operand, Scalar, StrictComparison, Text, Value,
 };
 use vortex_buffer::Buffer;
-use vortex_table::{Names, Projection, ScanRequest, Selection, StrictSortedBuffer};
+use vortex_scan_types::{Names, Projection, ScanRequest, Selection, StrictSortedBuffer};
 
 fn operator_of(written: &str) -> CompareOperator {
     match written {

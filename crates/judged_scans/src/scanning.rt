@@ -11,7 +11,8 @@ use std::test::Fail;
 use vortex_array::ColumnDesc;
 use vortex_io::MemorySource;
 use vortex_judge::{PlainBatch, PlainContent, Question, answers, are_small, ask, read_batch};
-use vortex_table::{Batch, Chunk, PartitionDesc, ScanError, ScanRequest, Table};
+use vortex_scan_types::{Batch, ScanRequest};
+use vortex_table::{Chunk, PartitionDesc, ScanError, Table};
 
 fn asked(
     alloc: Global,

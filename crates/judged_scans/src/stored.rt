@@ -15,9 +15,8 @@ use vortex_array::{
 use vortex_buffer::{Buffer, Items};
 use vortex_io::{Arrive, MemorySource, Order};
 use vortex_judge::{PlainContent, PlainRow, PlainSplit, are_fit, read_content};
-use vortex_table::{
-    Batch, Chunk, ChunkDesc, PartitionDesc, ScanError, ScanRequest, SplitDesc, Table, scan_table,
-};
+use vortex_scan_types::{Batch, ScanRequest};
+use vortex_table::{Chunk, ChunkDesc, PartitionDesc, ScanError, SplitDesc, Table, scan_table};
 
 fn listed(alloc: Global, split: &str) -> Result<Vec<u64>, Fail> {
     let mut numbers = Vec::new(alloc);

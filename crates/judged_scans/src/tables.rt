@@ -10,10 +10,8 @@ use vortex_array::{ColumnDesc, DType, Nullability, PType};
 use vortex_buffer::{Buffer, Items};
 use vortex_io::{Arrive, MemorySource, Order};
 use vortex_judge::are_small;
-use vortex_table::{
-    Chunk, ChunkDesc, NotIncreasing, PartitionDesc, ScanError, SplitDesc, StrictSortedBuffer,
-    Table, TableError,
-};
+use vortex_scan_types::{NotIncreasing, StrictSortedBuffer};
+use vortex_table::{Chunk, ChunkDesc, PartitionDesc, ScanError, SplitDesc, Table, TableError};
 
 // The rows of a chunk, and whether they may be null: they may where a `?` follows.
 fn chunk(written: &str) -> Result<(u64, Nullability), Fail> {

@@ -1,6 +1,6 @@
 -- Comparisons with constants, and between.
 use Rattle.std.proofs.Common.{◌≡◌, Bool, List, [], ◌∷◌, length, map, refl, sym, ap, ◌∙◌, Option, None, Some}
-use Rattle.std.specs.Prelude.{IsTrue, replicate}
+use Rattle.std.specs.Prelude.{replicate}
 use Rattle.std.specs.Simd.Lanes.{zip2}
 use Rattle.std.proofs.lemmas.List.{length-map, length-replicate}
 use Rattle.std.proofs.lemmas.Simd.{length-zip2}
@@ -8,19 +8,11 @@ use Rattle.vortex_buffer.specs.declared.compare_operator.CompareOperator.{Compar
 use Rattle.vortex_array_types.specs.Order.{compares}
 use Rattle.vortex_array_types.specs.Row.{Column, nullability}
 use Rattle.vortex_array_types.specs.Truth.{both, all_three, lies_between, lower_operator, upper_operator}
-use Rattle.vortex_array_types.specs.Typed.{same_apart_from_nullability}
 use Rattle.vortex_array_types.specs.declared.filter.BetweenOptions.{BetweenOptions}
-use Rattle.vortex_array_types.specs.declared.types.DType.{DType}
 use Rattle.vortex_array_types.specs.declared.types.DType.TheVariants as dtype
 use Rattle.vortex_array_types.specs.declared.types.Nullability.{Nullability}
 use Rattle.vortex_array_types.specs.declared.types.Nullability.TheVariants as nulls
 use Rattle.vortex_array_types.specs.declared.scalar.Value.{Value}
-use Rattle.vortex_array_kinds.specs.StringValues.{is_string_type, string_type}
-use Rattle.vortex_array_kinds.specs.declared.strings.StringKind.{StringKind}
-use Rattle.vortex_array_kinds.specs.declared.strings.StringKind.TheVariants.{Utf8, Binary}
-use Rattle.vortex_array_types.specs.Digits.{Digits}
-use Rattle.vortex_array_types.specs.declared.types.PType.{PType}
-use Rattle.vortex_array.specs.Plain.{is_bool_type, is_primitive_type, is_decimal_type}
 use Rattle.vortex_array_compare.proofs.Tested.{tested}
 use Rattle.vortex_array_kinds.specs.Kinds.{constant_column}
 use Rattle.vortex_array_kinds.specs.Parts.{ConstantParts}

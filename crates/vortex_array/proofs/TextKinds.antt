@@ -12,22 +12,13 @@ use Rattle.vortex_array_kinds.specs.StringValues.{is_text_type}
 -- the value is a text
 abbrev pub is_text : Value → Bool
 is_text (value.Utf8 t) = true
-is_text (value.Binary b) = false
-is_text (value.Bool b) = false
-is_text (value.Int n) = false
-is_text (value.Decimal n) = false
+is_text _ = false
 
 -- only texts fit a type of texts
 texts_fit : (t : DType) (v : Value) → IsTrue (is_text_type t) → IsTrue (fits_type t (Some v)) → IsTrue (is_text v)
 texts_fit (dtype.Utf8 n) (value.Utf8 b) k h = refl
-texts_fit (dtype.Utf8 n) (value.Binary b) k h = absurd (cc h)
-texts_fit (dtype.Utf8 n) (value.Bool b) k h = absurd (cc h)
-texts_fit (dtype.Utf8 n) (value.Int b) k h = absurd (cc h)
-texts_fit (dtype.Utf8 n) (value.Decimal b) k h = absurd (cc h)
-texts_fit (dtype.Binary n) v k h = absurd (cc k)
-texts_fit (dtype.Bool n) v k h = absurd (cc k)
-texts_fit (dtype.Primitive p n) v k h = absurd (cc k)
-texts_fit (dtype.Decimal d n) v k h = absurd (cc k)
+texts_fit (dtype.Utf8 n) v k h = absurd (cc h)
+texts_fit t v k h = absurd (cc k)
 
 -- what is no text does not fit such a type
 pub no-text : (t : DType) (v : Value) → IsTrue (is_text_type t) → IsTrue (fits_type t (Some v)) → is_text v ≡ false → ⊥

@@ -87,7 +87,18 @@ macro_rules! plain_kind {
     };
 }
 
+// What the expression is for the array of one kind, where it is of none of the others.
+macro_rules! only_kind {
+    ($array:expr, $kind:ident => $answer:expr, $only:ident, [$($other:ident),+]) => {
+        match $array {
+            Array::$only($kind) => $answer,
+            $(Array::$other(_) => unreachable!(),)+
+        }
+    };
+}
+
 pub(crate) use each_kind;
+pub(crate) use only_kind;
 pub(crate) use plain_kind;
 pub(crate) use same_kind;
 

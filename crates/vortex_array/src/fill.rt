@@ -1,5 +1,5 @@
 // Columns of any kind whose null rows get a value.
-ghost use Rattle.std.specs.Prelude.{◌≡◌, ◌∷◌, [], IfOk, IsTrue, None, Some, is_some, length, replicate, slice_index_or};
+ghost use Rattle.std.specs.Prelude.{◌≡◌, ◌∷◌, [], IfOk, IsTrue, Some, is_some};
 ghost use Rattle.vortex_array_types.specs.Row.{value_fits};
 ghost use Rattle.vortex_array_types.specs.Seen.{value_seen};
 ghost use Rattle.vortex_array_types.specs.Typed.{same_apart_from_nullability};
@@ -8,10 +8,10 @@ ghost use Rattle.vortex_array.specs.ColumnOf.{column_of, constant_column, is_pla
 
 use crate::arrays::{Array, plain_kind};
 use crate::single::one_row;
-use crate::take::{equal_places, take_plain};
+use crate::take::repeat_row;
 use std::alloc::{AllocError, Global};
 use vortex_array_cast::Fill;
-use vortex_array_kinds::{ConstantArray, Validity};
+use vortex_array_kinds::ConstantArray;
 use vortex_array_types::{DType, Scalar, ValueRef};
 
 impl Array {
@@ -95,16 +95,4 @@ fn fill_row(
 {
     let row = one_row(alloc, row)?;
     fill_plain(alloc, &row, dtype, value)
-}
-
-// The one row of a plain array, so many times.
-fn repeat_row(alloc: Global, row: &Array, len: usize) -> Result<Array, AllocError>
-    requires plain { IsTrue (is_plain_array row.now) }
-    requires one { length (column_of row.now).rows ≡ 1 }
-    ensures column { IfOk result (λ a. column_of a ≡ record { dtype = (column_of row.now).dtype; rows = replicate len (slice_index_or (column_of row.now).rows 0 None) }) }
-    ensures plain { IfOk result (λ a. IsTrue (is_plain_array a)) }
-{
-    let first = equal_places(alloc, 0u8, len)?;
-    let part = take_plain(alloc, row, first.as_slice(), &Validity::NonNullable)?;
-    Ok(part)
 }

@@ -15,6 +15,7 @@ mod plain;
 mod select;
 mod single;
 mod take;
+pub mod wire;
 
 pub use arrays::Array;
 pub use batch::RecordBatch;

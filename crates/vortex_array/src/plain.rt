@@ -4,7 +4,7 @@ ghost use Rattle.vortex_array_kinds.specs.StringValues.{is_string_type};
 ghost use Rattle.vortex_array.specs.Plain.{is_bool_type, is_decimal_type, is_primitive_type};
 ghost use Rattle.vortex_array.specs.ColumnOf.{bool_column, column_of, decimal_column, is_plain, primitive_column, string_column};
 
-use crate::arrays::Array;
+use crate::arrays::{Array, only_kind};
 use vortex_array_kinds::{BoolArray, DecimalArray, PrimitiveArray, VarBinViewArray};
 
 // A plain array of truth values as what it is.
@@ -13,13 +13,7 @@ pub(crate) fn bools_of(array: &Array) -> &BoolArray
     requires kind { IsTrue (is_bool_type (column_of array.now).dtype) }
     ensures { column_of array.now ≡ bool_column result.now }
 {
-    match array {
-        Array::Bool(kind) => kind,
-        Array::Primitive(_) => unreachable!(),
-        Array::Decimal(_) => unreachable!(),
-        Array::VarBinView(_) => unreachable!(),
-        Array::Constant(_) => unreachable!(),
-    }
+    only_kind!(array, kind => kind, Bool, [Primitive, Decimal, VarBinView, Constant])
 }
 
 // A plain array of whole numbers as what it is.
@@ -28,13 +22,7 @@ pub(crate) fn primitives_of(array: &Array) -> &PrimitiveArray
     requires kind { IsTrue (is_primitive_type (column_of array.now).dtype) }
     ensures { column_of array.now ≡ primitive_column result.now }
 {
-    match array {
-        Array::Bool(_) => unreachable!(),
-        Array::Primitive(kind) => kind,
-        Array::Decimal(_) => unreachable!(),
-        Array::VarBinView(_) => unreachable!(),
-        Array::Constant(_) => unreachable!(),
-    }
+    only_kind!(array, kind => kind, Primitive, [Bool, Decimal, VarBinView, Constant])
 }
 
 // A plain array of decimals as what it is.
@@ -43,13 +31,7 @@ pub(crate) fn decimals_of(array: &Array) -> &DecimalArray
     requires kind { IsTrue (is_decimal_type (column_of array.now).dtype) }
     ensures { column_of array.now ≡ decimal_column result.now }
 {
-    match array {
-        Array::Bool(_) => unreachable!(),
-        Array::Primitive(_) => unreachable!(),
-        Array::Decimal(kind) => kind,
-        Array::VarBinView(_) => unreachable!(),
-        Array::Constant(_) => unreachable!(),
-    }
+    only_kind!(array, kind => kind, Decimal, [Bool, Primitive, VarBinView, Constant])
 }
 
 // A plain array of texts or of bytes as what it is.
@@ -58,11 +40,5 @@ pub(crate) fn strings_of(array: &Array) -> &VarBinViewArray
     requires kind { IsTrue (is_string_type (column_of array.now).dtype) }
     ensures { column_of array.now ≡ string_column result.now }
 {
-    match array {
-        Array::Bool(_) => unreachable!(),
-        Array::Primitive(_) => unreachable!(),
-        Array::Decimal(_) => unreachable!(),
-        Array::VarBinView(kind) => kind,
-        Array::Constant(_) => unreachable!(),
-    }
+    only_kind!(array, kind => kind, VarBinView, [Bool, Primitive, Decimal, Constant])
 }

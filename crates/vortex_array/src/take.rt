@@ -1,21 +1,18 @@
 // The rows of arrays at indices.
-ghost use Rattle.std.specs.Prelude.{◌≡◌, All, IfOk, IsTrue, length, map, pos, replicate};
-ghost use Rattle.vortex_array_types.specs.Row.{fits_type, value_fits};
-ghost use Rattle.vortex_array_types.specs.Seen.{value_seen};
-ghost use Rattle.vortex_array_types.specs.declared.scalar.Value.TheVariants as values;
-ghost use Rattle.vortex_array_select.specs.Selected.{IndexBelow, NamesRows, is_index_type, taken};
+ghost use Rattle.std.specs.Prelude.{◌≡◌, All, IfOk, IsTrue, None, length, map, pos, replicate, slice_index_or};
+ghost use Rattle.vortex_array_select.specs.Selected.{IndexBelow, NamesRows, taken};
 ghost use Rattle.vortex_array_select.specs.SelectedParts.{PlacesBelow, index_column};
 ghost use Rattle.vortex_array.specs.ColumnOf.{column_of, constant_column, is_plain as is_plain_array, primitive_column};
-ghost use Rattle.vortex_array.specs.Index.{nulls_of_index, number_column, place_of_index};
+ghost use Rattle.vortex_array.specs.Index.{number_column};
 ghost use Rattle.vortex_array_kinds.specs.Validities.{is_as_long};
 
 use crate::arrays::{Array, plain_kind};
+use crate::plain::primitives_of;
 use crate::single::one_row;
 use std::alloc::{AllocError, Global};
 use vortex_array_kinds::{ConstantArray, PrimitiveArray, PrimitiveBuffer, Validity};
 use vortex_array_rows::RowIndex;
 use vortex_array_select::{Take, take_constant};
-use vortex_array_types::{DType, Scalar, ValueRef};
 use vortex_buffer::Buffer;
 
 impl Array {
@@ -82,9 +79,8 @@ fn take_by_equal(alloc: Global, array: &Array, index: &ConstantArray) -> Result<
     ensures column { IfOk result (λ part. column_of part ≡ taken (constant_column index.now) (column_of array.now)) }
     ensures plain { IfOk result (λ part. IsTrue (is_plain_array array.now) → IsTrue (is_plain_array part)) }
 {
-    let nulls = index_nulls(index.scalar());
-    let places = equal_places(alloc, index_place(index.scalar()), index.len())?;
-    let part = take_at(alloc, array, places.as_slice(), &nulls)?;
+    let indices = each_row(alloc, index)?;
+    let part = take_by_numbers(alloc, array, primitives_of(&indices))?;
     Ok(part)
 }
 
@@ -107,7 +103,7 @@ fn take_at<P: RowIndex>(
 }
 
 // The rows of a plain array at places.
-pub(crate) fn take_plain<P: RowIndex>(
+fn take_plain<P: RowIndex>(
     alloc: Global,
     array: &Array,
     places: &[P],
@@ -157,11 +153,7 @@ fn take_one_row<P: RowIndex>(
 }
 
 // So many equal places.
-pub(crate) fn equal_places<P: RowIndex>(
-    alloc: Global,
-    place: P,
-    len: usize,
-) -> Result<Vec<P>, AllocError>
+fn equal_places<P: RowIndex>(alloc: Global, place: P, len: usize) -> Result<Vec<P>, AllocError>
     ensures { IfOk result (λ places. places.items ≡ replicate len place) }
 {
     let mut places = Vec::with_capacity(alloc, len)?;
@@ -171,40 +163,24 @@ pub(crate) fn equal_places<P: RowIndex>(
     Ok(places)
 }
 
-// Whether an index is null, and its type has nulls.
-fn index_nulls(index: &Scalar) -> Validity
-    ensures nulls { result ≡ nulls_of_index index.now }
-    ensures fits { IsTrue (fits_type index.now.dtype index.now.value) }
+// The one row of a plain array, so many times.
+pub(crate) fn repeat_row(alloc: Global, row: &Array, len: usize) -> Result<Array, AllocError>
+    requires plain { IsTrue (is_plain_array row.now) }
+    requires one { length (column_of row.now).rows ≡ 1 }
+    ensures column { IfOk result (λ a. column_of a ≡ record { dtype = (column_of row.now).dtype; rows = replicate len (slice_index_or (column_of row.now).rows 0 None) }) }
+    ensures plain { IfOk result (λ a. IsTrue (is_plain_array a)) }
 {
-    if index.value_ref().is_none() {
-        return Validity::AllInvalid;
-    }
-    if index.dtype().is_nullable() {
-        Validity::AllValid
-    } else {
-        Validity::NonNullable
-    }
+    let first = equal_places(alloc, 0u8, len)?;
+    let part = take_plain(alloc, row, first.as_slice(), &Validity::NonNullable)?;
+    Ok(part)
 }
 
-// The place of an index, 0 where it is null.
-fn index_place(index: &Scalar) -> u64
-    requires { IsTrue (is_index_type index.now.dtype) }
-    ensures { result ≡ place_of_index index.now }
+// Equal rows as a plain array.
+fn each_row(alloc: Global, array: &ConstantArray) -> Result<Array, AllocError>
+    ensures column { IfOk result (λ a. column_of a ≡ constant_column array.now) }
+    ensures plain { IfOk result (λ a. IsTrue (is_plain_array a)) }
 {
-    match index.value_ref() {
-        Some(value) => number_of(index.dtype(), value),
-        None => 0,
-    }
-}
-
-// The number of an index.
-fn number_of(dtype: DType, value: ValueRef<'_>) -> u64
-    requires kind { IsTrue (is_index_type dtype) }
-    requires fits { IsTrue (value_fits dtype (value_seen value)) }
-    ensures { value_seen value.entry ≡ values.Int (pos result) }
-{
-    match value {
-        ValueRef::Int(number) => number as u64,
-        _ => unreachable!(),
-    }
+    let row = one_row(alloc, array.scalar())?;
+    let each = repeat_row(alloc, &row, array.len())?;
+    Ok(each)
 }

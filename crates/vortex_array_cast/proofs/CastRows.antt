@@ -1,85 +1,99 @@
 -- Rows under a validity that is written anew, and rows that fit a type.
-use Rattle.std.proofs.Common.{ℕ, ◌<◌, ◌≡◌, Bool, true, false, cond, List, length, get_or, refl, sym, ap, ◌∙◌, arith, Some, None}
-use Rattle.std.specs.Prelude.{IsTrue, is_some}
+use Rattle.std.proofs.Common.{ℕ, ◌<◌, ◌≡◌, Bool, true, false, ◌||◌, List, length, get_or, refl, sym, ap, subst, ◌∙◌, arith, None, Some}
+use Rattle.std.specs.Prelude.{◌==◌, IsTrue, cond, count_by}
+use Rattle.std.specs.List.{list_all}
+use Rattle.std.proofs.lemmas.Bool.{false≢true}
 use Rattle.std.proofs.lemmas.List.{ext_get_or}
-use Rattle.vortex_array_types.specs.Row.{fits_type, is_nullable, value_fits}
+use Rattle.std.proofs.lemmas.List.Elements.{All-from_get_or}
+use Rattle.std.proofs.lemmas.List.Sums.{AllPass-from_list_all}
+use Rattle.vortex_buffer.proofs.Counts.{all_counted}
+use Rattle.vortex_array_types.specs.Row.{Column, fits_type, is_nullable, nullability, value_fits}
+use Rattle.vortex_array_types.specs.Widths.{with_nullability}
 use Rattle.vortex_array_types.specs.declared.types.DType.{DType}
 use Rattle.vortex_array_types.specs.declared.types.Nullability.{Nullability}
 use Rattle.vortex_array_types.specs.declared.types.Nullability.TheVariants as nulls
 use Rattle.vortex_array_types.specs.declared.scalar.Value.{Value}
-use Rattle.vortex_array_kinds.specs.Validities.{row_of, rows_under, is_as_long, valid_at, nullability_of}
+use Rattle.vortex_array_types.specs.declared.scalar.Value.TheVariants as value
+use Rattle.vortex_array_types.proofs.SameTypes.{with-own}
+use Rattle.vortex_array_kinds.specs.Kinds.{plain_column}
+use Rattle.vortex_array_kinds.specs.Parts.{PlainParts}
+use Rattle.vortex_array_kinds.specs.Validities.{row_of, rows_under, is_as_long, valid_at, nullability_of, nullable_validity}
 use Rattle.vortex_array_kinds.specs.declared.validity.Validity.{Validity}
 use Rattle.vortex_array_kinds.specs.declared.validity.Validity.TheVariants.{NonNullable, AllValid, AllInvalid, Bits}
-use Rattle.vortex_array_kinds.proofs.RowLemmas.{length-rows, row-here}
-use Rattle.vortex_array_cast.specs.Lanes.{NoNull, validity_with}
+use Rattle.vortex_array_kinds.proofs.RowLemmas.{length-rows, long_bits, nullable-long, nullable-type, row-here}
+use Rattle.vortex_array_kinds.proofs.TruthColumns.{same_column}
+use Rattle.vortex_array_cast.specs.declared.errors.CastError.TheVariants.{HasNull, DoesNotFit}
+use Rattle.vortex_array_cast.specs.Casts.{AllFit, AreCast, RefusesCast, StopsAt, cast_column, validity_with}
+
+fits_row : (t : DType) (x : Value) (b : Bool) → IsTrue (value_fits t x) → IsTrue (b || is_nullable t) → IsTrue (fits_type t (row_of x b))
+fits_row t x true h k = h
+fits_row t x false h k = k
+
+-- all rows fit where all values do, and null does or no row is null
+pub all-fit : (t : DType) (v : Validity) (xs : List Value) (n : ℕ) → length xs ≡ n → IsTrue (is_as_long v n) → IsTrue (list_all (value_fits t) xs) → ((i : ℕ) → i < n → IsTrue (valid_at v i || is_nullable t)) → AllFit t (rows_under v xs)
+all-fit t v xs n e long fit known =
+    let d : Value = value.Bool true in
+    let as_long : IsTrue (is_as_long v (length xs)) = rw e long in
+    All-from_get_or (λ row. IsTrue (fits_type t row)) (rows_under v xs) None
+    (λ i l.
+    let inside : i < length xs = omega (arith, l, length-rows v xs as_long) in
+    subst (λ row. IsTrue (fits_type t row)) (row-here v xs i d as_long inside)
+    (fits_row t (get_or xs i d) (valid_at v i) (AllPass-from_list_all (value_fits t) xs fit i d inside) (known i (omega (arith, inside, e)))))
+
+-- bits of which so many are set as there are say of no row that it is null
+pub counted-valid : (bits : List Bool) (n : ℕ) (b : Bool) → IsTrue (is_as_long (Bits bits) n) → IsTrue (count_by (λ bit. bit) bits == length bits) → (i : ℕ) → i < n → IsTrue (get_or bits i false || b)
+counted-valid bits n b long all i l = rw (AllPass-from_list_all (λ bit. bit) bits (sym (all_counted bits) ∙ all) i false (omega (arith, l, long_bits bits n long))) refl
+
+-- why a cast is refused at a row that does not fit
+pub stops : (t : DType) (c : Column) (i : ℕ) (is_value : Bool) → StopsAt t c i is_value → RefusesCast t c (cond is_value (DoesNotFit i) (HasNull i))
+stops t c i true h = h
+stops t c i false h = h
 
 -- a validity that is written anew has the same length
-pub long-with : (n : Nullability) (v : Validity) (len : ℕ) → IsTrue (is_as_long v len) → IsTrue (is_as_long (validity_with n v) len)
-long-with nulls.NonNullable v len e = refl
-long-with nulls.Nullable NonNullable len e = refl
-long-with nulls.Nullable AllValid len e = refl
-long-with nulls.Nullable AllInvalid len e = refl
-long-with nulls.Nullable (Bits bits) len e = e
+long_with : (n : Nullability) (v : Validity) (len : ℕ) → IsTrue (is_as_long v len) → IsTrue (is_as_long (validity_with n v) len)
+long_with nulls.NonNullable v len e = refl
+long_with nulls.Nullable v len e = nullable-long v len ∙ e
 
 -- it makes a type with nulls or without
-pub type-with : (n : Nullability) (v : Validity) → nullability_of (validity_with n v) ≡ n
-type-with nulls.NonNullable v = refl
-type-with nulls.Nullable NonNullable = refl
-type-with nulls.Nullable AllValid = refl
-type-with nulls.Nullable AllInvalid = refl
-type-with nulls.Nullable (Bits bits) = refl
+type_with : (n : Nullability) (v : Validity) → nullability_of (validity_with n v) ≡ n
+type_with nulls.NonNullable v = refl
+type_with nulls.Nullable v = nullable-type v
 
--- the same rows are null
-valid_with : (n : Nullability) (v : Validity) (len : ℕ) → (n ≡ nulls.NonNullable → NoNull v len) → (i : ℕ) → i < len → valid_at (validity_with n v) i ≡ valid_at v i
-valid_with nulls.NonNullable v len full i l = sym ((full refl).valid i l)
-valid_with nulls.Nullable NonNullable len full i l = refl
-valid_with nulls.Nullable AllValid len full i l = refl
-valid_with nulls.Nullable AllInvalid len full i l = refl
-valid_with nulls.Nullable (Bits bits) len full i l = refl
+nullable_valid : (v : Validity) (i : ℕ) → valid_at (nullable_validity v) i ≡ valid_at v i
+nullable_valid NonNullable i = refl
+nullable_valid AllValid i = refl
+nullable_valid AllInvalid i = refl
+nullable_valid (Bits bits) i = refl
 
--- two rows are equal where both are null, or both are one value
-one_row : {X : Type 0} (x y : X) (b c : Bool) → c ≡ b → (b ≡ true → y ≡ x) → row_of y c ≡ row_of x b
-one_row x y true c e same = rw e (ap (λ z. Some z) (same refl))
-one_row x y false c e same = rw e refl
+-- null stands in no type without nulls
+no_null : (t : DType) → nullability t ≡ nulls.NonNullable → is_nullable t ≡ false
+no_null t e = rw e refl
 
--- the same rows are null, and the others are the same values
-pub same-rows : {X : Type 0} (v w : Validity) (xs ys : List X) (d : X) → IsTrue (is_as_long v (length xs)) → IsTrue (is_as_long w (length ys)) → length ys ≡ length xs
-    → ((i : ℕ) → i < length xs → valid_at w i ≡ valid_at v i) → ((i : ℕ) → i < length xs → valid_at v i ≡ true → get_or ys i d ≡ get_or xs i d)
-    → rows_under w ys ≡ rows_under v xs
-same-rows v w xs ys d e g long nulls same =
-    ext_get_or None (rows_under w ys) (rows_under v xs) (length-rows w ys g ∙ long ∙ sym (length-rows v xs e))
+-- a row that fits is the same where it is cast
+cast_row : (t : DType) (v : Validity) (i : ℕ) (x y : Value) (n : Nullability) (b : Bool) → nullability t ≡ n → valid_at v i ≡ b → IsTrue (fits_type t (row_of x b)) → (IsTrue (value_fits t x) → y ≡ x) → row_of y (valid_at (validity_with n v) i) ≡ row_of x b
+cast_row t v i x y nulls.NonNullable true e g h same = ap (λ z. Some z) (same h)
+cast_row t v i x y nulls.NonNullable false e g h same = absurd (false≢true (sym (no_null t e) ∙ h))
+cast_row t v i x y nulls.Nullable true e g h same = rw (nullable_valid v i, g) (ap (λ z. Some z) (same h))
+cast_row t v i x y nulls.Nullable false e g h same = rw (nullable_valid v i, g) refl
+
+-- rows that fit are the same where they are cast
+cast_rows : (t : DType) (v : Validity) (xs ys : List Value) → length ys ≡ length xs → IsTrue (is_as_long v (length xs)) → AreCast (value_fits t) xs ys → AllFit t (rows_under v xs) → rows_under (validity_with (nullability t) v) ys ≡ rows_under v xs
+cast_rows t v xs ys n long cast fit =
+    let d : Value = value.Bool true in
+    let w : Validity = validity_with (nullability t) v in
+    let as_long : IsTrue (is_as_long w (length ys)) = rw n (long_with (nullability t) v (length xs) long) in
+    ext_get_or None (rows_under w ys) (rows_under v xs) (length-rows w ys as_long ∙ n ∙ sym (length-rows v xs long))
     (λ i l.
-    let inside : i < length xs = omega (arith, l, long, length-rows w ys g) in
-    sym (row-here w ys i d g (omega (arith, inside, long)))
-    ∙ one_row (get_or xs i d) (get_or ys i d) (valid_at v i) (valid_at w i) (nulls i inside) (same i inside)
-    ∙ row-here v xs i d e inside)
+    let inside : i < length ys = omega (arith, l, length-rows w ys as_long) in
+    let there : i < length xs = omega (arith, inside, n) in
+    let here = row-here v xs i d long there in
+    sym (row-here w ys i d as_long inside)
+    ∙ cast_row t v i (get_or xs i d) (get_or ys i d) (nullability t) (valid_at v i) refl refl (subst (λ row. IsTrue (fits_type t row)) (sym here) (fit i None (omega (arith, there, length-rows v xs long)))) (cast.same i d inside)
+    ∙ here)
 
--- the same values under a validity that is written anew
-pub rows-with : {X : Type 0} (n : Nullability) (v : Validity) (xs : List X) (d : X) → IsTrue (is_as_long v (length xs)) → (n ≡ nulls.NonNullable → NoNull v (length xs)) → rows_under (validity_with n v) xs ≡ rows_under v xs
-rows-with n v xs d e full = same-rows v (validity_with n v) xs xs d e (long-with n v (length xs) e) refl (valid_with n v (length xs) full) (λ i l t. refl)
-
-some_row : {X : Type 0} (x : X) (b : Bool) → is_some (row_of x b) ≡ b
-some_row x true = refl
-some_row x false = refl
-
--- whether the row at a place is a value
-pub some-at : {X : Type 0} (v : Validity) (xs : List X) (i : ℕ) (d : X) → IsTrue (is_as_long v (length xs)) → i < length xs → is_some (get_or (rows_under v xs) i None) ≡ valid_at v i
-some-at v xs i d e l = sym (ap is_some (row-here v xs i d e l)) ∙ some_row (get_or xs i d) (valid_at v i)
-
-fits_row : (t : DType) (x : Value) (b : Bool) → fits_type t (row_of x b) ≡ cond b (value_fits t x) (is_nullable t)
-fits_row t x true = refl
-fits_row t x false = refl
-
--- whether the row at a place fits a type
-pub fit-at : (t : DType) (v : Validity) (xs : List Value) (i : ℕ) (d : Value) → IsTrue (is_as_long v (length xs)) → i < length xs
-    → fits_type t (get_or (rows_under v xs) i None) ≡ cond (valid_at v i) (value_fits t (get_or xs i d)) (is_nullable t)
-fit-at t v xs i d e l = sym (ap (fits_type t) (row-here v xs i d e l)) ∙ fits_row t (get_or xs i d) (valid_at v i)
-
-chosen : (b x y : Bool) → (b ≡ true → x ≡ true) → y ≡ true → cond b x y ≡ true
-chosen true x y h k = h refl
-chosen false x y h k = k
-
--- the row at a place fits a type with nulls where a valid value does
-pub fits-here : (t : DType) (v : Validity) (xs : List Value) (i : ℕ) (d : Value) → is_nullable t ≡ true → IsTrue (is_as_long v (length xs)) → i < length xs
-    → (valid_at v i ≡ true → value_fits t (get_or xs i d) ≡ true) → IsTrue (fits_type t (get_or (rows_under v xs) i None))
-fits-here t v xs i d nullable e l values = fit-at t v xs i d e l ∙ chosen (valid_at v i) (value_fits t (get_or xs i d)) (is_nullable t) values nullable
+-- a plain array of values that are cast, all of whose rows fit, is the column cast
+pub cast-plain : {X : Type 0} (type_of : X → Nullability → DType) (items : X → List Value) (a : PlainParts X) (made : X) (t : DType) → length (items made) ≡ length (items a.values) → IsTrue (is_as_long a.validity (length (items a.values)))
+    → ((n : Nullability) → type_of made n ≡ with_nullability n t) → AreCast (value_fits t) (items a.values) (items made) → AllFit t (rows_under a.validity (items a.values))
+    → plain_column type_of items (record { values = made; validity = validity_with (nullability t) a.validity }) ≡ cast_column t (plain_column type_of items a)
+cast-plain type_of items a made t n long typed cast fit =
+    same_column _ _ _ _ (ap (type_of made) (type_with (nullability t) a.validity) ∙ typed (nullability t) ∙ with-own t) (cast_rows t a.validity (items a.values) (items made) n long cast fit)

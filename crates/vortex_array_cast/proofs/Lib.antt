@@ -1,8 +1,4 @@
-pub mod Converted
-pub mod CastBlocks
+pub mod CastItems
 pub mod CastRows
-pub mod NullCasts
-pub mod CastNumbers
-pub mod SameCasts
+pub mod CastTypes
 pub mod FilledRows
-pub mod PlainColumns

@@ -2,9 +2,14 @@
 use Rattle.std.specs.Prelude.{◌≡◌, ◌<◌, ℕ, Bool, true, false, IsTrue, IsFalse, List, length, All, Option, None, is_some, slice_index_or}
 use Rattle.vortex_array_types.specs.declared.types.DType.{DType}
 use Rattle.vortex_array_types.specs.declared.types.DType.TheVariants.{Primitive}
+use Rattle.vortex_array_types.specs.declared.types.Nullability.{Nullability}
+use Rattle.vortex_array_types.specs.declared.types.Nullability.TheVariants.{NonNullable as WithoutNulls, Nullable}
 use Rattle.vortex_array_types.specs.declared.scalar.Value.{Value}
 use Rattle.vortex_array_types.specs.Row.{Column, fits_type}
 use Rattle.vortex_array_types.specs.Typed.{same_apart_from_nullability}
+use Rattle.vortex_array_kinds.specs.Validities.{nullable_validity}
+use Rattle.vortex_array_kinds.specs.declared.validity.Validity.{Validity}
+use Rattle.vortex_array_kinds.specs.declared.validity.Validity.TheVariants.{NonNullable}
 use Rattle.vortex_array_cast.specs.declared.errors.CastError.{CastError}
 use Rattle.vortex_array_cast.specs.declared.errors.CastError.TheVariants.{Unsupported, HasNull, DoesNotFit, OutOfMemory}
 
@@ -12,6 +17,15 @@ use Rattle.vortex_array_cast.specs.declared.errors.CastError.TheVariants.{Unsupp
 abbrev pub can_cast : DType → DType → Bool
 can_cast (Primitive p n) (Primitive q m) = true
 can_cast t u = same_apart_from_nullability t u
+
+-- items are cast: each stands at the place of its own, and is the same where that fits
+pub record AreCast {X : Type 0} (fits : X → Bool) (xs ys : List X) : Type 0 where
+  pub same : (i : ℕ) (d : X) → i < length ys → IsTrue (fits (slice_index_or xs i d)) → slice_index_or ys i d ≡ slice_index_or xs i d
+
+-- the same rows are null, of a type with nulls; or none is
+abbrev pub validity_with : Nullability → Validity → Validity
+validity_with WithoutNulls v = NonNullable
+validity_with Nullable v = nullable_validity v
 
 -- the same rows, of the type
 abbrev pub cast_column : DType → Column → Column
@@ -44,10 +58,3 @@ RefusesCast t c Unsupported = IsFalse (can_cast c.dtype t)
 RefusesCast t c (HasNull i) = StopsAt t c i false
 RefusesCast t c (DoesNotFit i) = StopsAt t c i true
 RefusesCast t c OutOfMemory = IsCast t c
-
--- why a row is not cast that stands at place 0, or for each row
-abbrev pub RefusesRow : DType → Option Value → CastError → Type 0
-RefusesRow t row Unsupported = ⊥
-RefusesRow t row (HasNull i) = (i ≡ 0) × (row ≡ None) × IsFalse (fits_type t row)
-RefusesRow t row (DoesNotFit i) = (i ≡ 0) × IsTrue (is_some row) × IsFalse (fits_type t row)
-RefusesRow t row OutOfMemory = IsTrue (fits_type t row)

@@ -1,3 +1,2 @@
 pub mod Casts
 pub mod Filled
-pub mod Lanes

@@ -4,7 +4,6 @@ ghost use Rattle.vortex_array_kinds.specs.Validities.{is_as_long, valid_bits};
 ghost use Rattle.vortex_array_cast.specs.Filled.{filled_items};
 
 use crate::cast::{CastValues, cast_same};
-use crate::errors::CastError;
 use crate::fill::FillValues;
 use std::alloc::{AllocError, Global};
 use vortex_array_kinds::Validity;
@@ -12,13 +11,8 @@ use vortex_array_types::{DType, ValueRef};
 use vortex_buffer::BitBuffer;
 
 impl CastValues for BitBuffer {
-    fn cast_values(
-        &self,
-        alloc: Global,
-        validity: &Validity,
-        dtype: &DType,
-    ) -> Result<BitBuffer, CastError> {
-        cast_same(alloc, self, validity, dtype)
+    fn cast_values(&self, alloc: Global, dtype: &DType) -> Result<(BitBuffer, bool), AllocError> {
+        cast_same(alloc, self, dtype)
     }
 }
 

@@ -1,38 +1,31 @@
 // What a cast of a column is, whatever its kind.
-ghost use Rattle.std.specs.Prelude.{◌≡◌, IsTrue, IfOk, IfErr, OnOk, All};
+ghost use Rattle.std.specs.Prelude.{◌≡◌, IsTrue, IfOk, IfErr, OnOk};
+ghost use Rattle.std.specs.List.{list_all};
 ghost use Rattle.vortex_array_types.specs.Row.{value_fits};
 ghost use Rattle.vortex_array_types.specs.Typed.{same_apart_from_nullability};
-ghost use Rattle.vortex_array_types.specs.Widths.{nullable_form, with_nullability};
+ghost use Rattle.vortex_array_types.specs.Widths.{with_nullability};
 ghost use Rattle.vortex_array_types.specs.declared.types.Nullability.{Nullability};
 ghost use Rattle.vortex_array_types.specs.declared.types.Nullability.TheVariants.{NonNullable};
-ghost use Rattle.vortex_array_kinds.specs.Kinds.{plain_column, rows_under};
 ghost use Rattle.vortex_array_kinds.specs.Validities.{is_as_long};
 ghost use Rattle.vortex_array_cast.specs.declared.errors.CastError.TheVariants as errors;
-ghost use Rattle.vortex_array_cast.specs.Casts.{IsCast, RefusesCast, can_cast, cast_column};
-ghost use Rattle.vortex_array_cast.specs.Lanes.{earlier as earlier_refusal, validity_with as validity_with_nullability};
+ghost use Rattle.vortex_array_cast.specs.Casts.{AreCast, IsCast, RefusesCast, can_cast, cast_column, validity_with};
 
 use crate::errors::CastError;
-use crate::nulls::{first_refused_null, validity_with};
-use std::alloc::Global;
+use crate::refusals::{first_refused, is_castable};
+use std::alloc::{AllocError, Global};
 use vortex_array_kinds::{Kind, PlainArray, Validity, Values};
 use vortex_array_types::{DType, Nullability};
 
-/// Values that are cast where they are valid. Their nulls are cast for all kinds alike, so that here the type has nulls.
+/// Values that are cast to a type.
 pub trait CastValues: Values {
-    /// The same values at the places that are valid, and any in the others, of this type. It is refused exactly where the
-    /// type cannot be cast to it, and at the first valid place whose value does not fit.
-    fn cast_values(
-        &self,
-        alloc: Global,
-        validity: &Validity,
-        dtype: &DType,
-    ) -> Result<Self, CastError>
-        requires long { IsTrue (is_as_long validity.now (Self.count_of self.now)) }
-        ensures same_length { IfOk result (λ made. Self.count_of made ≡ Self.count_of self.now) }
-        ensures same_type { IfOk result (λ made. (n : Nullability) → Self.type_of made n ≡ with_nullability n dtype.now) }
-        ensures ok { IfOk result (λ made. rows_under validity.now (Self.items made) ≡ rows_under validity.now (Self.items self.now)) }
-        ensures fits { OnOk result (IsCast (nullable_form dtype.now) (plain_column Self.type_of Self.items (record { values = self.now; validity = validity.now }))) }
-        ensures err { IfErr result (RefusesCast (nullable_form dtype.now) (plain_column Self.type_of Self.items (record { values = self.now; validity = validity.now }))) };
+    /// As many values of a type to which theirs can be cast, and whether all values fit it. Each that fits it is the same
+    /// there, and in the place of another stands any.
+    fn cast_values(&self, alloc: Global, dtype: &DType) -> Result<(Self, bool), AllocError>
+        requires castable { IsTrue (can_cast (Self.type_of self.now NonNullable) dtype.now) }
+        ensures same_length { IfOk result (λ made. Self.count_of made.0 ≡ Self.count_of self.now) }
+        ensures same_type { IfOk result (λ made. (n : Nullability) → Self.type_of made.0 n ≡ with_nullability n dtype.now) }
+        ensures ok { IfOk result (λ made. AreCast (value_fits dtype.now) (Self.items self.now) (Self.items made.0)) }
+        ensures fits { IfOk result (λ made. made.1 ≡ list_all (value_fits dtype.now) (Self.items self.now)) };
 }
 
 /// A kind of columns that are cast to another type.
@@ -47,20 +40,23 @@ pub trait Cast: Kind {
 
 impl<V: CastValues> Cast for PlainArray<V> {
     fn cast(&self, alloc: Global, dtype: &DType) -> Result<PlainArray<V>, CastError> {
-        let validity = self.validity();
-        let nullability = dtype.nullability();
-        let null = first_refused_null(validity, self.len(), nullability);
-        match self.stored().cast_values(alloc, validity, dtype) {
-            Ok(values) => match null {
-                Some(row) => Err(CastError::HasNull { row }),
-                None => with_validity(alloc, values, validity, nullability),
+        if !is_castable(&self.dtype(), dtype) {
+            return Err(CastError::Unsupported);
+        }
+        match self.stored().cast_values(alloc, dtype) {
+            Ok((values, fit)) => match first_refused(self, dtype, fit) {
+                None => with_validity(alloc, values, self.validity(), dtype.nullability()),
+                Some(error) => Err(error),
             },
-            Err(error) => Err(earlier(null, error)),
+            Err(_) => match first_refused(self, dtype, false) {
+                None => Err(CastError::OutOfMemory),
+                Some(error) => Err(error),
+            },
         }
     }
 }
 
-// A column of these values, the same rows null, with nulls or without.
+// A column of these values, the same rows null, of a type with nulls; or none null.
 fn with_validity<V: Values>(
     alloc: Global,
     values: V,
@@ -68,30 +64,15 @@ fn with_validity<V: Values>(
     nullability: Nullability,
 ) -> Result<PlainArray<V>, CastError>
     requires long { IsTrue (is_as_long validity.now (V.count_of values)) }
-    ensures ok { IfOk result (λ a. a ≡ record { values = values; validity = validity_with_nullability nullability validity.now }) }
+    ensures ok { IfOk result (λ a. a ≡ record { values = values; validity = validity_with nullability validity.now }) }
     ensures err { IfErr result (λ e. e ≡ errors.OutOfMemory) }
 {
-    match validity_with(alloc, validity, nullability) {
-        Ok(validity) => Ok(PlainArray::new(values, validity)),
-        Err(_) => Err(CastError::OutOfMemory),
-    }
-}
-
-// Of a null that is refused and a refusal of a value, the one that comes first.
-fn earlier(null: Option<usize>, error: CastError) -> CastError
-    ensures { result ≡ earlier_refusal null error }
-{
-    match (null, error) {
-        (None, error) => error,
-        (Some(_), CastError::Unsupported) => CastError::Unsupported,
-        (Some(row), CastError::DoesNotFit { row: outside }) => {
-            if outside < row {
-                CastError::DoesNotFit { row: outside }
-            } else {
-                CastError::HasNull { row }
-            }
-        }
-        (Some(row), _) => CastError::HasNull { row },
+    match nullability {
+        Nullability::NonNullable => Ok(PlainArray::new(values, Validity::NonNullable)),
+        Nullability::Nullable => match validity.try_clone(alloc) {
+            Ok(copy) => Ok(PlainArray::new(values, copy.into_nullable())),
+            Err(_) => Err(CastError::OutOfMemory),
+        },
     }
 }
 
@@ -99,25 +80,16 @@ fn earlier(null: Option<usize>, error: CastError) -> CastError
 pub(crate) fn cast_same<V: Values>(
     alloc: Global,
     values: &V,
-    validity: &Validity,
     dtype: &DType,
-) -> Result<V, CastError>
-    requires long { IsTrue (is_as_long validity.now (V.count_of values.now)) }
-    requires fits { All (λ x. IsTrue (value_fits (V.type_of values.now NonNullable) x)) (V.items values.now) }
-    requires same { can_cast (V.type_of values.now NonNullable) dtype.now ≡ same_apart_from_nullability (V.type_of values.now NonNullable) dtype.now }
-    ensures same_length { IfOk result (λ made. V.count_of made ≡ V.count_of values.now) }
-    ensures same_type { IfOk result (λ made. (n : Nullability) → V.type_of made n ≡ with_nullability n dtype.now) }
-    ensures ok { IfOk result (λ made. rows_under validity.now (V.items made) ≡ rows_under validity.now (V.items values.now)) }
-    ensures fits { OnOk result (IsCast (nullable_form dtype.now) (plain_column V.type_of V.items (record { values = values.now; validity = validity.now }))) }
-    ensures err { IfErr result (RefusesCast (nullable_form dtype.now) (plain_column V.type_of V.items (record { values = values.now; validity = validity.now }))) }
+) -> Result<(V, bool), AllocError>
+    requires same_type { IsTrue (same_apart_from_nullability (V.type_of values.now NonNullable) dtype.now) }
+    requires fits { IsTrue (list_all (value_fits (V.type_of values.now NonNullable)) (V.items values.now)) }
+    ensures same_length { IfOk result (λ made. V.count_of made.0 ≡ V.count_of values.now) }
+    ensures same_type { IfOk result (λ made. (n : Nullability) → V.type_of made.0 n ≡ with_nullability n dtype.now) }
+    ensures ok { IfOk result (λ made. AreCast (value_fits dtype.now) (V.items values.now) (V.items made.0)) }
+    ensures fits { IfOk result (λ made. made.1 ≡ list_all (value_fits dtype.now) (V.items values.now)) }
 {
-    let _ = validity;
-    let own = values.type_with(Nullability::NonNullable);
-    if !own.same_apart_from_nullability(dtype) {
-        return Err(CastError::Unsupported);
-    }
-    match values.copy(alloc) {
-        Ok(copy) => Ok(copy),
-        Err(_) => Err(CastError::OutOfMemory),
-    }
+    let _ = dtype;
+    let copy = values.copy(alloc)?;
+    Ok((copy, true))
 }

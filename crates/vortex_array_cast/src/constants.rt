@@ -1,106 +1,51 @@
 // Columns of equal rows, cast by their one row.
-ghost use Rattle.std.specs.Prelude.{◌≡◌, IsTrue, IfOk, IfErr, OnOk, Some, None};
+ghost use Rattle.std.specs.Prelude.{◌≡◌, IsTrue, IfOk, Some};
 ghost use Rattle.vortex_array_types.specs.Row.{fits_type, value_fits};
-ghost use Rattle.vortex_array_cast.specs.declared.errors.CastError.TheVariants as errors;
-ghost use Rattle.vortex_array_cast.specs.Casts.{RefusesRow, can_cast as types_can_cast};
 
 use crate::cast::Cast;
 use crate::errors::CastError;
-use std::alloc::Global;
+use crate::refusals::{is_castable, refused_at, row_fits};
+use std::alloc::{AllocError, Global};
 use vortex_array_kinds::ConstantArray;
 use vortex_array_types::{Bytes, DType, Scalar, Text, Value};
-use vortex_buffer::AllocError;
 
 impl Cast for ConstantArray {
     fn cast(&self, alloc: Global, dtype: &DType) -> Result<ConstantArray, CastError> {
-        if !can_cast(&self.dtype(), dtype) {
+        if !is_castable(&self.dtype(), dtype) {
             return Err(CastError::Unsupported);
         }
-        if self.is_empty() {
-            return match cast_empty(alloc, dtype) {
-                Ok(cast) => Ok(cast),
-                Err(error) => Err(error),
-            };
+        let row = self.scalar().value_ref();
+        if !self.is_empty() && !row_fits(dtype, row) {
+            return Err(refused_at(0, row.is_some()));
         }
-        match cast_scalar(alloc, self.scalar(), dtype) {
+        match row_of(alloc, self.scalar(), dtype) {
             Ok(scalar) => Ok(ConstantArray::new(scalar, self.len())),
-            Err(error) => Err(error),
+            Err(_) => Err(CastError::OutOfMemory),
         }
     }
 }
 
-// A column of the type without rows.
-fn cast_empty(alloc: Global, dtype: &DType) -> Result<ConstantArray, CastError>
-    ensures dtype { IfOk result (λ a. a.scalar.dtype ≡ dtype.now) }
-    ensures empty { IfOk result (λ a. a.len ≡ 0) }
-    ensures err { IfErr result (λ e. e ≡ errors.OutOfMemory) }
+// The same row, of a type that it fits; else any row of the type.
+fn row_of(alloc: Global, scalar: &Scalar, dtype: &DType) -> Result<Scalar, AllocError>
+    ensures dtype { IfOk result (λ s. s.dtype ≡ dtype.now) }
+    ensures same { IfOk result (λ s. IsTrue (fits_type dtype.now scalar.now.value) → s.value ≡ scalar.now.value) }
 {
-    match any_scalar(alloc, dtype) {
-        Ok(scalar) => Ok(ConstantArray::new(scalar, 0)),
-        Err(_) => Err(CastError::OutOfMemory),
+    if !row_fits(dtype, scalar.value_ref()) {
+        return Ok(typed(*dtype, Some(any_value(alloc, dtype)?)));
     }
-}
-
-// Whether columns of one type can be cast to another.
-fn can_cast(from: &DType, to: &DType) -> bool
-    ensures { result ≡ types_can_cast from.now to.now }
-{
-    match (from, to) {
-        (DType::Primitive(_, _), DType::Primitive(_, _)) => true,
-        _ => from.same_apart_from_nullability(to),
-    }
-}
-
-// The same value or null, of another type.
-fn cast_scalar(alloc: Global, scalar: &Scalar, dtype: &DType) -> Result<Scalar, CastError>
-    ensures ok { IfOk result (λ s. s ≡ record { dtype = dtype.now; value = scalar.now.value }) }
-    ensures fits { OnOk result (IsTrue (fits_type dtype.now scalar.now.value)) }
-    ensures err { IfErr result (RefusesRow dtype.now scalar.now.value) }
-{
     match scalar.value() {
-        None => cast_null(dtype),
-        Some(value) => cast_value(alloc, value, dtype),
+        None => Ok(typed(*dtype, None)),
+        Some(value) => Ok(typed(*dtype, Some(value.try_clone(alloc)?))),
     }
 }
 
-// Null, of a type.
-fn cast_null(dtype: &DType) -> Result<Scalar, CastError>
-    ensures ok { IfOk result (λ s. s ≡ record { dtype = dtype.now; value = None }) }
-    ensures fits { OnOk result (IsTrue (fits_type dtype.now None)) }
-    ensures err { IfErr result (RefusesRow dtype.now None) }
+// A row of a type that it fits.
+fn typed(dtype: DType, row: Option<Value>) -> Scalar
+    requires { IsTrue (fits_type dtype row) }
+    ensures { result ≡ record { dtype = dtype; value = row } }
 {
-    match Scalar::try_new(*dtype, None) {
-        Ok(scalar) => Ok(scalar),
-        Err(_) => Err(CastError::HasNull { row: 0 }),
-    }
-}
-
-// The value, of another type.
-fn cast_value(alloc: Global, value: &Value, dtype: &DType) -> Result<Scalar, CastError>
-    ensures ok { IfOk result (λ s. s ≡ record { dtype = dtype.now; value = Some value.now }) }
-    ensures fits { OnOk result (IsTrue (fits_type dtype.now (Some value.now))) }
-    ensures err { IfErr result (RefusesRow dtype.now (Some value.now)) }
-{
-    if !dtype.holds(value) {
-        return Err(CastError::DoesNotFit { row: 0 });
-    }
-    let copy = match value.try_clone(alloc) {
-        Ok(copy) => copy,
-        Err(_) => return Err(CastError::OutOfMemory),
-    };
-    match Scalar::try_new(*dtype, Some(copy)) {
-        Ok(scalar) => Ok(scalar),
-        Err(_) => unreachable!(),
-    }
-}
-
-// A row of the type, for a column without rows.
-fn any_scalar(alloc: Global, dtype: &DType) -> Result<Scalar, AllocError>
-    ensures { IfOk result (λ s. s.dtype ≡ dtype.now) }
-{
-    let value = any_value(alloc, dtype)?;
-    match Scalar::try_new(*dtype, Some(value)) {
-        Ok(scalar) => Ok(scalar),
+    match Scalar::try_new(dtype, row) {
+        Ok(scalar) => scalar,
         Err(_) => unreachable!(),
     }
 }

@@ -6,20 +6,14 @@ ghost use Rattle.vortex_array_kinds.specs.Validities.{is_as_long, valid_bits};
 ghost use Rattle.vortex_array_cast.specs.Filled.{filled_items};
 
 use crate::cast::{CastValues, cast_same};
-use crate::errors::CastError;
 use crate::fill::{FillValues, fill_items};
 use std::alloc::{AllocError, Global};
 use vortex_array_kinds::{DecimalBuffer, DecimalWidth, Decimals, Validity, each_decimal_width};
 use vortex_array_types::{DType, ValueRef};
 
 impl CastValues for Decimals {
-    fn cast_values(
-        &self,
-        alloc: Global,
-        validity: &Validity,
-        dtype: &DType,
-    ) -> Result<Decimals, CastError> {
-        cast_same(alloc, self, validity, dtype)
+    fn cast_values(&self, alloc: Global, dtype: &DType) -> Result<(Decimals, bool), AllocError> {
+        cast_same(alloc, self, dtype)
     }
 }
 

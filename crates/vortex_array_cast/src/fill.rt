@@ -11,8 +11,7 @@ ghost use Rattle.vortex_array_cast.specs.Filled.{filled, filled_items};
 use std::alloc::{AllocError, Global};
 use vortex_array_kinds::{Kind, PlainArray, Validity, Values};
 use vortex_array_types::{DType, ValueRef};
-use vortex_buffer::{BitBuffer, Buffer};
-use vortex_compute::{IndexedSource, map_into};
+use vortex_buffer::Buffer;
 
 /// Values that are filled where they are not valid.
 pub trait FillValues: Values {
@@ -51,8 +50,27 @@ impl<V: FillValues> Fill for PlainArray<V> {
         dtype: DType,
         value: ValueRef<'_>,
     ) -> Result<PlainArray<V>, AllocError> {
-        let filled = self.stored().fill_values(alloc, self.validity(), value)?;
+        let filled = filled_values(alloc, self.stored(), self.validity(), value)?;
         Ok(PlainArray::new(filled, Validity::of_values(dtype.nullability())))
+    }
+}
+
+// The values, and the fill at the places that are not valid: a copy where no place is null.
+fn filled_values<V: FillValues>(
+    alloc: Global,
+    values: &V,
+    validity: &Validity,
+    fill: ValueRef<'_>,
+) -> Result<V, AllocError>
+    requires long { IsTrue (is_as_long validity.now (V.count_of values.now)) }
+    requires fits { IsTrue (value_fits (V.type_of values.now NonNullable) (value_seen fill)) }
+    ensures same_type { IfOk result (λ made. (n : Nullability) → V.type_of made n ≡ V.type_of values.now n) }
+    ensures ok { IfOk result (λ made. V.items made ≡ filled_items (value_seen fill.entry) (V.items values.now) (valid_bits validity.now (V.count_of values.now))) }
+{
+    if validity.has_none() {
+        values.copy(alloc)
+    } else {
+        values.fill_values(alloc, validity, fill)
     }
 }
 
@@ -66,55 +84,11 @@ pub(crate) fn fill_items<T: Copy>(
     requires long { IsTrue (is_as_long validity.now (length items.now)) }
     ensures { IfOk result (λ b. b ≡ filled_items fill items.now (valid_bits validity.now (length items.now))) }
 {
-    match validity {
-        Validity::NonNullable => Buffer::from_slice(alloc, items),
-        Validity::AllValid => Buffer::from_slice(alloc, items),
-        Validity::AllInvalid => {
-            let none = BitBuffer::new_unset(alloc, items.len())?;
-            fill_unset(alloc, items, &none, fill)
-        }
-        Validity::Bits(bits) => fill_unset(alloc, items, bits, fill),
+    let mut filled = Vec::with_capacity(alloc, items.len())?;
+    for i in 0..items.len() {
+        filled.push(item_or(items[i], validity.is_valid(i), fill))?;
     }
-}
-
-// The items, and the fill where the bit is not set.
-fn fill_unset<T: Copy>(
-    alloc: Global,
-    items: &[T],
-    bits: &BitBuffer,
-    fill: T,
-) -> Result<Buffer<T>, AllocError>
-    requires same_length { length bits.now ≡ length items.now }
-    ensures { IfOk result (λ b. b ≡ filled_items fill items.now bits.now) }
-{
-    let mut out = Vec::from_elem(alloc, fill, items.len())?;
-    map_into(&FilledItems { items, bits, fill }, &mut out, |item: T| item);
-    Ok(Buffer::from_vec(out))
-}
-
-// The items, and the fill where the bit is not set, as lanes.
-#[derive(Drop)]
-struct FilledItems<'a, T: Copy> {
-    items: &'a [T],
-    bits: &'a BitBuffer,
-    fill: T,
-    ghost same_length: { length bits.now ≡ length items.now },
-}
-
-impl<T: Copy> IndexedSource for FilledItems<'_, T> {
-    type Item = T;
-
-    ghost lanes = { λ s. filled_items s.fill s.items.now s.bits.now };
-
-    #[inline(always)]
-    fn len(&self) -> usize {
-        self.items.len()
-    }
-
-    #[inline(always)]
-    fn get(&self, i: usize) -> T {
-        item_or(self.items[i], self.bits.value(i), self.fill)
-    }
+    Ok(Buffer::from_vec(filled))
 }
 
 // The item where it is valid, else the fill.

@@ -9,10 +9,10 @@ mod constants;
 mod decimals;
 mod errors;
 mod fill;
-mod lanes;
-mod nulls;
 mod primitives;
+mod refusals;
 mod strings;
+mod widths;
 
 pub use cast::{Cast, CastValues};
 pub use errors::CastError;

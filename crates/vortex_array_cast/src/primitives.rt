@@ -1,16 +1,16 @@
 // Whole numbers cast to another width and filled.
-ghost use Rattle.std.specs.Prelude.{◌≡◌, IsTrue, IfOk, IfErr, OnOk, length, map};
+ghost use Rattle.std.specs.Prelude.{◌≡◌, IsTrue, IfOk, length, map};
+ghost use Rattle.std.specs.List.{list_all};
 ghost use Rattle.vortex_array_types.specs.Row.{in_width};
 ghost use Rattle.vortex_array_types.specs.declared.scalar.Value.TheVariants as value;
 ghost use Rattle.vortex_array_kinds.specs.Kinds.{len_of, numbers_of, ptype_of};
 ghost use Rattle.vortex_array_kinds.specs.Validities.{is_as_long, valid_bits};
+ghost use Rattle.vortex_array_cast.specs.Casts.{AreCast};
 ghost use Rattle.vortex_array_cast.specs.Filled.{filled_items};
-ghost use Rattle.vortex_array_cast.specs.Lanes.{WithinWhereValid, RefusesNumbers, SameWhereValid};
 
 use crate::cast::CastValues;
-use crate::errors::CastError;
 use crate::fill::{FillValues, fill_items};
-use crate::lanes::cast_items;
+use crate::widths::cast_items;
 use std::alloc::{AllocError, Global};
 use vortex_array_kinds::{PrimitiveBuffer, PrimitiveWidth, Validity, each_width};
 use vortex_array_types::{DType, PType, ValueRef};
@@ -20,25 +20,23 @@ use vortex_buffer::Buffer;
 fn cast_to<T: PrimitiveWidth>(
     alloc: Global,
     items: &Buffer<T>,
-    validity: &Validity,
     width: PType,
-) -> Result<PrimitiveBuffer, CastError>
-    requires long { IsTrue (is_as_long validity.now (length (map T.number items.now))) }
-    ensures width { IfOk result (λ b. ptype_of b ≡ width) }
-    ensures same { IfOk result (λ b. SameWhereValid validity.now (map T.number items.now) (numbers_of b)) }
-    ensures within { OnOk result (WithinWhereValid validity.now width (map T.number items.now)) }
-    ensures err { IfErr result (RefusesNumbers validity.now width (map T.number items.now)) }
+) -> Result<(PrimitiveBuffer, bool), AllocError>
+    ensures width { IfOk result (λ made. ptype_of made.0 ≡ width) }
+    ensures same_length { IfOk result (λ made. length (numbers_of made.0) ≡ length (map T.number items.now)) }
+    ensures ok { IfOk result (λ made. AreCast (in_width width) (map T.number items.now) (numbers_of made.0)) }
+    ensures fits { IfOk result (λ made. made.1 ≡ list_all (in_width width) (map T.number items.now)) }
 {
     let items = items.as_slice();
     match width {
-        PType::U8 => cast_items(alloc, items, validity).map(PrimitiveBuffer::U8),
-        PType::U16 => cast_items(alloc, items, validity).map(PrimitiveBuffer::U16),
-        PType::U32 => cast_items(alloc, items, validity).map(PrimitiveBuffer::U32),
-        PType::U64 => cast_items(alloc, items, validity).map(PrimitiveBuffer::U64),
-        PType::I8 => cast_items(alloc, items, validity).map(PrimitiveBuffer::I8),
-        PType::I16 => cast_items(alloc, items, validity).map(PrimitiveBuffer::I16),
-        PType::I32 => cast_items(alloc, items, validity).map(PrimitiveBuffer::I32),
-        PType::I64 => cast_items(alloc, items, validity).map(PrimitiveBuffer::I64),
+        PType::U8 => cast_items(alloc, items, 0u8),
+        PType::U16 => cast_items(alloc, items, 0u16),
+        PType::U32 => cast_items(alloc, items, 0u32),
+        PType::U64 => cast_items(alloc, items, 0u64),
+        PType::I8 => cast_items(alloc, items, 0i8),
+        PType::I16 => cast_items(alloc, items, 0i16),
+        PType::I32 => cast_items(alloc, items, 0i32),
+        PType::I64 => cast_items(alloc, items, 0i64),
     }
 }
 
@@ -46,31 +44,28 @@ fn cast_to<T: PrimitiveWidth>(
 fn cast_numbers(
     alloc: Global,
     values: &PrimitiveBuffer,
-    validity: &Validity,
     width: PType,
-) -> Result<PrimitiveBuffer, CastError>
-    requires long { IsTrue (is_as_long validity.now (len_of values.now)) }
-    ensures width { IfOk result (λ b. ptype_of b ≡ width) }
-    ensures same { IfOk result (λ b. SameWhereValid validity.now (numbers_of values.now) (numbers_of b)) }
-    ensures within { OnOk result (WithinWhereValid validity.now width (numbers_of values.now)) }
-    ensures err { IfErr result (RefusesNumbers validity.now width (numbers_of values.now)) }
+) -> Result<(PrimitiveBuffer, bool), AllocError>
+    ensures width { IfOk result (λ made. ptype_of made.0 ≡ width) }
+    ensures same_length { IfOk result (λ made. len_of made.0 ≡ len_of values.now) }
+    ensures ok { IfOk result (λ made. AreCast (in_width width) (numbers_of values.now) (numbers_of made.0)) }
+    ensures fits { IfOk result (λ made. made.1 ≡ list_all (in_width width) (numbers_of values.now)) }
 {
-    each_width!(values, items => cast_to(alloc, items, validity, width))
+    each_width!(values, items => cast_to(alloc, items, width))
 }
 
 impl CastValues for PrimitiveBuffer {
     fn cast_values(
         &self,
         alloc: Global,
-        validity: &Validity,
         dtype: &DType,
-    ) -> Result<PrimitiveBuffer, CastError> {
+    ) -> Result<(PrimitiveBuffer, bool), AllocError> {
         match dtype {
-            DType::Primitive(width, _) => match cast_numbers(alloc, self, validity, *width) {
-                Ok(numbers) => Ok(numbers),
-                Err(error) => Err(error),
-            },
-            _ => Err(CastError::Unsupported),
+            DType::Primitive(width, _) => {
+                let made = cast_numbers(alloc, self, *width)?;
+                Ok(made)
+            }
+            _ => unreachable!(),
         }
     }
 }

@@ -4,21 +4,15 @@ ghost use Rattle.vortex_array_kinds.specs.Validities.{is_as_long, valid_at, vali
 ghost use Rattle.vortex_array_cast.specs.Filled.{filled_items};
 
 use crate::cast::{CastValues, cast_same};
-use crate::errors::CastError;
 use crate::fill::FillValues;
 use std::alloc::{AllocError, Global};
 use vortex_array_kinds::{Strings, Validity};
-use vortex_array_rows::ByteLists;
+use vortex_array_lists::ByteLists;
 use vortex_array_types::{DType, ValueRef};
 
 impl CastValues for Strings {
-    fn cast_values(
-        &self,
-        alloc: Global,
-        validity: &Validity,
-        dtype: &DType,
-    ) -> Result<Strings, CastError> {
-        cast_same(alloc, self, validity, dtype)
+    fn cast_values(&self, alloc: Global, dtype: &DType) -> Result<(Strings, bool), AllocError> {
+        cast_same(alloc, self, dtype)
     }
 }
 
@@ -45,9 +39,6 @@ fn fill_lists(
     requires long { IsTrue (is_as_long validity.now (length lists.now)) }
     ensures { IfOk result (λ b. b ≡ filled_items fill.now lists.now (valid_bits validity.now (length lists.now))) }
 {
-    if validity.has_none() {
-        return lists.try_clone(alloc);
-    }
     let mut filled = ByteLists::new(alloc);
     for i in 0..lists.len() {
         filled.push(list_or(lists, validity, i, fill))?;

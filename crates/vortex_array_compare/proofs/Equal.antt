@@ -16,10 +16,10 @@ use Rattle.vortex_array_kinds.specs.Truths.{either, either_column, truth_row, tr
 use Rattle.vortex_array_kinds.specs.declared.validity.Validity.{Validity}
 use Rattle.vortex_array_kinds.specs.declared.validity.Validity.TheVariants.{AllInvalid}
 use Rattle.vortex_array_kinds.proofs.BothValid.{either_nullable}
-use Rattle.vortex_array_kinds.proofs.TruthColumns.{column, truth-column}
+use Rattle.vortex_array_kinds.proofs.TruthColumns.{truth-column}
 use Rattle.vortex_array_kinds.proofs.TruthRows.{truth_rows}
 use Rattle.vortex_array_compare.specs.Repeated.{repeated}
-use Rattle.vortex_array_compare.proofs.Tested.{Full, tested}
+use Rattle.vortex_array_compare.proofs.Tested.{Full, tested, tested-turned}
 
 all_one : (n : ℕ) (b : Bool) → truth_rows (replicate n b) (replicate n true) ≡ map truth_row (replicate n (Some b))
 all_one zero b = refl
@@ -77,18 +77,10 @@ constant-null test a k is fits e =
     ∙ ap (truths (either_column a (constant_column k))) (rw (← n) (null_right test a.rows))
     ∙ ap (λ r. truths (either_column a (constant_column k)) (zip2 (both test) a.rows (replicate k.len r))) is
 
-null_left : (test : Value → Value → Bool) (ys : List (Option Value)) → replicate (length ys) None ≡ zip2 (both test) (replicate (length ys) None) ys
-null_left test [] = refl
-null_left test (y ∷ ys) = ap (λ rest. None ∷ rest) (null_left test ys)
-
 -- equal rows that are null beside a column
 pub first-null : (test : Value → Value → Bool) (k : ConstantParts) (b : Column) → None ≡ k.scalar.value → IsTrue (fits_type k.scalar.dtype k.scalar.value) → length (constant_column k).rows ≡ length b.rows
     → truths nulls.Nullable (replicate k.len None) ≡ tested test (constant_column k) b
-first-null test k b is fits e =
-    let n : length b.rows ≡ k.len = sym e ∙ length-replicate k.len k.scalar.value in
-    ap (λ m. truths (either m (nullability b.dtype)) (replicate k.len None)) (sym (null_kind k is fits))
-    ∙ ap (truths (either_column (constant_column k) b)) (rw (← n) (null_left test b.rows))
-    ∙ ap (λ r. truths (either_column (constant_column k) b) (zip2 (both test) (replicate k.len r) b.rows)) is
+first-null test k b is fits e = constant-null (λ x y. test y x) b k is fits (sym e) ∙ tested-turned (λ x y. test y x) test (λ x y. refl) (constant_column k) b
 
 -- and so beside one value in each row
 pub equal-null : (test : Value → Value → Bool) (k : ConstantParts) (t : DType) (v : Value) → None ≡ k.scalar.value → IsTrue (fits_type k.scalar.dtype k.scalar.value)

@@ -1,7 +1,6 @@
 -- Texts matched with patterns.
-use Rattle.std.proofs.Common.{ℕ, ◌≡◌, Bool, List, [], ◌∷◌, length, get_or, map, refl, ap, ◌∙◌}
+use Rattle.std.proofs.Common.{ℕ, ◌≡◌, List, [], ◌∷◌, length, get_or, map, refl, ap, ◌∙◌}
 use Rattle.std.specs.Prelude.{IsTrue, IsUtf8, All}
-use Rattle.std.specs.List.{AllZip}
 use Rattle.std.specs.Simd.Lanes.{zip2}
 use Rattle.std.specs.Str.{is_utf8}
 use Rattle.std.proofs.lemmas.List.{length-map}
@@ -21,25 +20,14 @@ use Rattle.vortex_array_compare.proofs.Tested.{Laws}
 pub string-laws : Laws (λ (s : StringParts) (n : Nullability). string_type s.kind n) strings_of (λ (s : StringParts). length s.lists)
 string-laws = record { counted = λ s. length-map s.lists (string_value s.kind); alike = λ s. same_kind s.kind }
 
--- the answers are the lanes themselves
-pub answers-same : (P : Bool → Bool → Type 0) (xs bs : List Bool) → ((x : Bool) (b : Bool) → P x b → b ≡ x) → AllZip P xs bs → bs ≡ xs
-answers-same P [] [] f h = refl
-answers-same P [] (b ∷ bs) f h = absurd h
-answers-same P (x ∷ xs) [] f h = absurd h
-answers-same P (x ∷ xs) (b ∷ bs) f h = ap (λ c. c ∷ bs) (f x b h.0) ∙ ap (λ cs. x ∷ cs) (answers-same P xs bs f h.1)
-
 -- strings of a type of texts are texts
 pub text-kind : (kind : StringKind) (n : Nullability) → IsTrue (is_text_type (string_type kind n)) → kind ≡ Utf8
 text-kind Utf8 n e = refl
 text-kind Binary n e = absurd (cc e)
 
--- lists that are all UTF-8, by the test
-pub all-tested : (lists : List (List ℕ)) → All IsUtf8 lists → All (λ bytes. IsTrue (is_utf8 bytes)) lists
-all-tested lists h k d l = is_utf8-from_IsUtf8 (get_or lists k d) (h k d l)
-
--- texts are UTF-8
-pub text-lists : (s : StringParts) → s.kind ≡ Utf8 → AreStrings s.kind s.lists → All IsUtf8 s.lists
-text-lists s e h = rw e at h
+-- texts are all UTF-8, by the test
+pub text-lists : (s : StringParts) → s.kind ≡ Utf8 → AreStrings s.kind s.lists → All (λ bytes. IsTrue (is_utf8 bytes)) s.lists
+text-lists s e h = let texts : All IsUtf8 s.lists = rw e at h in λ k d l. is_utf8-from_IsUtf8 (get_or s.lists k d) (texts k d l)
 
 -- the values of texts
 pub text-values : (s : StringParts) → s.kind ≡ Utf8 → map (λ text. value.Utf8 text) s.lists ≡ strings_of s

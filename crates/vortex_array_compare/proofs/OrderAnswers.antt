@@ -94,3 +94,9 @@ differs Greater = refl
 pub not-equal : (os : List Ordering) → map not (map is_eq os) ≡ map is_ne os
 not-equal [] = refl
 not-equal (o ∷ os) = ap (λ b. b ∷ map not (map is_eq os)) (differs o) ∙ ap (λ bs. is_ne o ∷ bs) (not-equal os)
+
+-- a function of each pair's answer
+pub mapped-pairs : {X Y Z W : Type 0} (f : Z → W) (g : X → Y → Z) (xs : List X) (ys : List Y) → zip2 (λ x y. f (g x y)) xs ys ≡ map f (zip2 g xs ys)
+mapped-pairs f g [] ys = refl
+mapped-pairs f g (x ∷ xs) [] = refl
+mapped-pairs f g (x ∷ xs) (y ∷ ys) = ap (λ rest. f (g x y) ∷ rest) (mapped-pairs f g xs ys)

@@ -1,9 +1,9 @@
 -- Bits that answer pairs of values, as columns.
-use Rattle.std.proofs.Common.{ℕ, zero, suc, ◌≡◌, Bool, true, false, ◌&&◌, List, [], ◌∷◌, length, map, refl, sym, ap, ◌∙◌, Some, None}
+use Rattle.std.proofs.Common.{ℕ, zero, suc, ◌≡◌, Bool, true, false, ◌&&◌, List, [], ◌∷◌, length, map, refl, sym, ap, ◌∙◌, Option, Some, None}
 use Rattle.std.specs.Prelude.{IsTrue, replicate}
 use Rattle.std.specs.Simd.Lanes.{zip2}
 use Rattle.std.proofs.lemmas.List.{length-map, length-replicate, map-id}
-use Rattle.std.proofs.lemmas.Simd.{length-zip2, zip2_splat, zip2_splat_left}
+use Rattle.std.proofs.lemmas.Simd.{length-zip2}
 use Rattle.vortex_array_types.specs.Row.{Column, nullability, value_fits}
 use Rattle.vortex_array_types.specs.Truth.{both}
 use Rattle.vortex_array_types.specs.Typed.{same_apart_from_nullability}
@@ -24,10 +24,7 @@ use Rattle.vortex_array_kinds.proofs.TruthColumns.{truth-column}
 use Rattle.vortex_array_kinds.proofs.TruthRows.{cons_same, rows-present, truth_rows}
 use Rattle.vortex_array_kinds.proofs.RowLemmas.{rows-counted}
 use Rattle.vortex_array_compare.specs.Repeated.{repeated}
-
--- row by row, what a test says of two values, and null where a row is null
-abbrev pub tested : (Value → Value → Bool) → Column → Column → Column
-tested test a b = truths (either_column a b) (zip2 (both test) a.rows b.rows)
+pub use Rattle.vortex_array_compare.specs.Tested.{tested}
 
 -- a column whose rows are values, null where the validity says so
 pub record Side (xs : List Value) (v : Validity) (a : Column) : Type 0 where
@@ -52,21 +49,20 @@ tested_rows test (x ∷ xs) (y ∷ ys) (p ∷ ps) (q ∷ qs) = cons_same _ _ _ _
 
 -- bits that say of each pair what the test says, with the validity of both, are the tested column
 pub tested-column : (test : Value → Value → Bool) (xs ys : List Value) (va vb : Validity) (a b : Column) → Side xs va a → Side ys vb b → length xs ≡ length ys
-    → (made : PlainParts (List Bool)) → made.values ≡ zip2 test xs ys → BothValid (length made.values) va vb made.validity
-    → bool_column made ≡ tested test a b
-tested-column test xs ys va vb a b sa sb e made is valid =
-    let n : length made.values ≡ length xs = ap length is ∙ length-zip2 test xs ys e in
-    let here : BothValid (length xs) va vb made.validity = rw n at valid in
+    → (bits : List Bool) (v : Validity) (made : PlainParts (List Bool)) → made ≡ record { values = bits; validity = v } → bits ≡ zip2 test xs ys → BothValid (length bits) va vb v → bool_column made ≡ tested test a b
+tested-column test xs ys va vb a b sa sb e bits v made parts is valid =
+    let n : length bits ≡ length xs = ap length is ∙ length-zip2 test xs ys e in
+    let here : BothValid (length xs) va vb v = rw n at valid in
     let ps : List Bool = valid_bits va (length xs) in
     let qs : List Bool = valid_bits vb (length xs) in
-    truth-column made.values made.validity (length xs) (either_column a b) (zip2 (both test) a.rows b.rows) (zip2 ◌&&◌ ps qs) n
+    rw parts (truth-column bits v (length xs) (either_column a b) (zip2 (both test) a.rows b.rows) (zip2 ◌&&◌ ps qs) n
     (here.nulls ∙ ap (λ k. either k (nullability_of vb)) sa.nulls ∙ ap (either (nullability a.dtype)) sb.nulls)
     here.present
-    (ap (λ bits. truth_rows bits (zip2 ◌&&◌ ps qs)) is
+    (ap (λ bs. truth_rows bs (zip2 ◌&&◌ ps qs)) is
     ∙ tested_rows test xs ys ps qs
     ∙ ap (λ rows. map truth_row (zip2 (both test) rows (zip2 row_of ys qs))) (sym sa.rows)
     ∙ ap (λ k. map truth_row (zip2 (both test) a.rows (zip2 row_of ys (valid_bits vb k)))) e
-    ∙ ap (λ rows. map truth_row (zip2 (both test) a.rows rows)) (sym sb.rows))
+    ∙ ap (λ rows. map truth_row (zip2 (both test) a.rows rows)) (sym sb.rows)))
 
 rows_valid : (v : Validity) (xs : List Value) → rows_under v xs ≡ zip2 row_of xs (valid_bits v (length xs))
 rows_valid v xs = ap (rows_under v) (sym (map-id xs)) ∙ rows-present (λ x. x) v xs
@@ -111,20 +107,6 @@ repeated-side x n t v full = record {
   nulls = full.kind;
 }
 
--- values beside one value in each row
-pub tested-with : (test : Value → Value → Bool) (xs : List Value) (va : Validity) (a : Column) → Side xs va a → (x : Value) (t : DType) (v : Validity) → Full (nullability t) v → (n : ℕ) → n ≡ length xs
-    → (made : PlainParts (List Bool)) → made.values ≡ map (λ y. test y x) xs → BothValid (length made.values) va v made.validity
-    → bool_column made ≡ tested test a (repeated t x n)
-tested-with test xs va a sa x t v full n e made is valid =
-    tested-column test xs (replicate n x) va v a (repeated t x n) sa (repeated-side x n t v full) (sym e ∙ sym (length-replicate n x)) made (is ∙ sym (zip2_splat test xs n x (sym e))) valid
-
--- one value in each row beside values
-pub tested-beside : (test : Value → Value → Bool) (ys : List Value) (vb : Validity) (b : Column) → Side ys vb b → (x : Value) (t : DType) (v : Validity) → Full (nullability t) v → (n : ℕ) → n ≡ length ys
-    → (made : PlainParts (List Bool)) → made.values ≡ map (test x) ys → BothValid (length made.values) v vb made.validity
-    → bool_column made ≡ tested test (repeated t x n) b
-tested-beside test ys vb b sb x t v full n e made is valid =
-    tested-column test (replicate n x) ys v vb (repeated t x n) b (repeated-side x n t v full) sb (length-replicate n x ∙ e) made (is ∙ sym (zip2_splat_left test x n ys (sym e))) valid
-
 same_left : (s t : DType) (n : Nullability) → same_apart_from_nullability (with_nullability n s) t ≡ same_apart_from_nullability s t
 same_left (dtype.Bool m) t n = refl
 same_left (dtype.Primitive p m) t n = refl
@@ -151,42 +133,38 @@ pub bare-fits : {X : Type 0} (type_of : X → Nullability → DType) (items : X 
     → IsTrue (value_fits (type_of x n) v) → IsTrue (value_fits (type_of x nulls.NonNullable) v)
 bare-fits type_of items count_of law x n v fits = rw (law.alike x n nulls.NonNullable, fits-with nulls.NonNullable (type_of x n) v) fits
 
--- a validity that is as long as one of two lists is as long as their answers
-pub long-each : (test : Value → Value → Bool) (xs ys : List Value) (n : ℕ) (v : Validity) (bits : List Bool) → length xs ≡ n → length ys ≡ n → bits ≡ zip2 test xs ys → IsTrue (is_as_long v n) → IsTrue (is_as_long v (length bits))
-long-each test xs ys n v bits e f is long = rw (ap length is ∙ length-zip2 test xs ys (e ∙ sym f) ∙ e) long
+-- there are as many answers as values of each of two lists
+pub counted-each : (test : Value → Value → Bool) (xs ys : List Value) (n : ℕ) (bits : List Bool) → length xs ≡ n → length ys ≡ n → bits ≡ zip2 test xs ys → length bits ≡ n
+counted-each test xs ys n bits e f is = ap length is ∙ length-zip2 test xs ys (e ∙ sym f) ∙ e
 
--- and of answers for each of a list
-pub long-with : (test : Value → Bool) (xs : List Value) (n : ℕ) (v : Validity) (bits : List Bool) → length xs ≡ n → bits ≡ map test xs → IsTrue (is_as_long v n) → IsTrue (is_as_long v (length bits))
-long-with test xs n v bits e is long = rw (ap length is ∙ length-map xs test ∙ e) long
+-- and as values of a list that are asked alone
+pub counted-with : (test : Value → Bool) (xs : List Value) (n : ℕ) (bits : List Bool) → length xs ≡ n → bits ≡ map test xs → length bits ≡ n
+counted-with test xs n bits e is = ap length is ∙ length-map xs test ∙ e
 
 -- two plain arrays of as many rows keep as many values
 pub same-count : {X : Type 0} (type_of : X → Nullability → DType) (items : X → List Value) (count_of : X → ℕ) → Laws type_of items count_of → (a b : PlainParts X)
     → IsTrue (is_as_long a.validity (count_of a.values)) → IsTrue (is_as_long b.validity (count_of b.values)) → length (plain_column type_of items a).rows ≡ length (plain_column type_of items b).rows → count_of a.values ≡ count_of b.values
 same-count type_of items count_of law a b ka kb e = sym (plain-rows type_of items count_of law a ka) ∙ e ∙ plain-rows type_of items count_of law b kb
 
--- the answers for two plain arrays
-pub plain-tested : {X : Type 0} (type_of : X → Nullability → DType) (items : X → List Value) (count_of : X → ℕ) → Laws type_of items count_of → (test : Value → Value → Bool) (a b : PlainParts X)
-    → IsTrue (is_as_long a.validity (count_of a.values)) → IsTrue (is_as_long b.validity (count_of b.values)) → length (plain_column type_of items a).rows ≡ length (plain_column type_of items b).rows
-    → (made : PlainParts (List Bool)) → made.values ≡ zip2 test (items a.values) (items b.values) → BothValid (length made.values) a.validity b.validity made.validity
-    → bool_column made ≡ tested test (plain_column type_of items a) (plain_column type_of items b)
-plain-tested type_of items count_of law test a b ka kb e made is valid =
-    tested-column test (items a.values) (items b.values) a.validity b.validity (plain_column type_of items a) (plain_column type_of items b) (plain-side type_of items count_of law a ka) (plain-side type_of items count_of law b kb)
-    (law.counted a.values ∙ same-count type_of items count_of law a b ka kb e ∙ sym (law.counted b.values)) made is valid
+either_turned : (m n : Nullability) → either m n ≡ either n m
+either_turned nulls.NonNullable nulls.NonNullable = refl
+either_turned nulls.NonNullable nulls.Nullable = refl
+either_turned nulls.Nullable nulls.NonNullable = refl
+either_turned nulls.Nullable nulls.Nullable = refl
 
--- the answers for a plain array and one value
-pub plain-with : {X : Type 0} (type_of : X → Nullability → DType) (items : X → List Value) (count_of : X → ℕ) → Laws type_of items count_of → (test : Value → Value → Bool) (a : PlainParts X)
-    → IsTrue (is_as_long a.validity (count_of a.values)) → (x : Value) (t : DType) (v : Validity) → Full (nullability t) v
-    → (made : PlainParts (List Bool)) → made.values ≡ map (λ y. test y x) (items a.values) → BothValid (length made.values) a.validity v made.validity
-    → bool_column made ≡ tested test (plain_column type_of items a) (repeated t x (length (plain_column type_of items a).rows))
-plain-with type_of items count_of law test a ka x t v full made is valid =
-    tested-with test (items a.values) a.validity (plain_column type_of items a) (plain-side type_of items count_of law a ka) x t v full (length (plain_column type_of items a).rows)
-    (plain-rows type_of items count_of law a ka ∙ sym (law.counted a.values)) made is valid
+row_turned : (f g : Value → Value → Bool) → ((x y : Value) → f y x ≡ g x y) → (x y : Option Value) → both f y x ≡ both g x y
+row_turned f g h None None = refl
+row_turned f g h None (Some y) = refl
+row_turned f g h (Some x) None = refl
+row_turned f g h (Some x) (Some y) = ap (λ t. Some t) (h x y)
 
--- the answers for one value and a plain array
-pub plain-beside : {X : Type 0} (type_of : X → Nullability → DType) (items : X → List Value) (count_of : X → ℕ) → Laws type_of items count_of → (test : Value → Value → Bool) (b : PlainParts X)
-    → IsTrue (is_as_long b.validity (count_of b.values)) → (x : Value) (t : DType) (v : Validity) → Full (nullability t) v
-    → (made : PlainParts (List Bool)) → made.values ≡ map (test x) (items b.values) → BothValid (length made.values) v b.validity made.validity
-    → bool_column made ≡ tested test (repeated t x (length (plain_column type_of items b).rows)) (plain_column type_of items b)
-plain-beside type_of items count_of law test b kb x t v full made is valid =
-    tested-beside test (items b.values) b.validity (plain_column type_of items b) (plain-side type_of items count_of law b kb) x t v full (length (plain_column type_of items b).rows)
-    (plain-rows type_of items count_of law b kb ∙ sym (law.counted b.values)) made is valid
+rows_turned : (f g : Value → Value → Bool) → ((x y : Value) → f y x ≡ g x y) → (xs ys : List (Option Value)) → zip2 (both f) ys xs ≡ zip2 (both g) xs ys
+rows_turned f g h [] [] = refl
+rows_turned f g h [] (y ∷ ys) = refl
+rows_turned f g h (x ∷ xs) [] = refl
+rows_turned f g h (x ∷ xs) (y ∷ ys) = ap (λ t. t ∷ zip2 (both f) ys xs) (row_turned f g h x y) ∙ ap (λ rest. both g x y ∷ rest) (rows_turned f g h xs ys)
+
+-- a test of the sides changed is the test turned round
+pub tested-turned : (f g : Value → Value → Bool) → ((x y : Value) → f y x ≡ g x y) → (a b : Column) → tested f b a ≡ tested g a b
+tested-turned f g h a b =
+    ap (λ k. truths k (zip2 (both f) b.rows a.rows)) (either_turned (nullability b.dtype) (nullability a.dtype)) ∙ ap (truths (either_column a b)) (rows_turned f g h a.rows b.rows)

@@ -1,7 +1,6 @@
 -- Comparisons turned round.
-use Rattle.std.proofs.Common.{◌≡◌, List, [], ◌∷◌, refl, ap, ◌∙◌, Option, Some, None}
+use Rattle.std.proofs.Common.{◌≡◌, refl, ap, ◌∙◌, Option, Some, None}
 use Rattle.std.specs.Prelude.{option_map}
-use Rattle.std.specs.Simd.Lanes.{zip2}
 use Rattle.std.specs.Ordering.{ordering_reverse}
 use Rattle.std.specs.declared.cmp.Ordering.{Ordering}
 use Rattle.std.specs.declared.cmp.Ordering.TheVariants.{Less, Equal, Greater}
@@ -10,14 +9,10 @@ use Rattle.std.proofs.lemmas.Cmp.{int_cmp_total, nat_list_cmp_total}
 use Rattle.vortex_buffer.specs.declared.compare_operator.CompareOperator.{CompareOperator}
 use Rattle.vortex_buffer.specs.declared.compare_operator.CompareOperator.TheVariants.{Eq, NotEq, Gt, Gte, Lt, Lte}
 use Rattle.vortex_array_types.specs.Order.{accepts, compares, value_cmp}
-use Rattle.vortex_array_types.specs.Row.{nullability}
-use Rattle.vortex_array_types.specs.Truth.{both}
-use Rattle.vortex_array_types.specs.declared.types.Nullability.{Nullability}
-use Rattle.vortex_array_types.specs.declared.types.Nullability.TheVariants as nulls
 use Rattle.vortex_array_types.specs.declared.scalar.Value.{Value}
 use Rattle.vortex_array_types.specs.declared.scalar.Value.TheVariants as value
-use Rattle.vortex_array_kinds.specs.Truths.{either, either_column, truths}
 use Rattle.vortex_array_compare.specs.Turned.{TurnedRound, turned}
+use Rattle.vortex_array_compare.proofs.Tested.{tested-turned}
 
 accepts_turned : (operator : CompareOperator) (o : Ordering) → accepts (turned operator) (ordering_reverse o) ≡ accepts operator o
 accepts_turned Eq Less = refl
@@ -56,28 +51,6 @@ compares_at operator a b (Some o) e =
     let back : value_cmp b a ≡ Some (ordering_reverse o) = cmp_turned a b ∙ ap (option_map ordering_reverse) e in
     rw (back, e) (accepts_turned operator o)
 
-both_turned : (operator : CompareOperator) (x y : Option Value) → both (compares (turned operator)) y x ≡ both (compares operator) x y
-both_turned operator None None = refl
-both_turned operator None (Some b) = refl
-both_turned operator (Some a) None = refl
-both_turned operator (Some a) (Some b) = ap (λ t. Some t) (compares_at operator a b (value_cmp a b) refl)
-
-rows_turned : (operator : CompareOperator) (xs ys : List (Option Value)) → zip2 (both (compares (turned operator))) ys xs ≡ zip2 (both (compares operator)) xs ys
-rows_turned operator [] [] = refl
-rows_turned operator [] (y ∷ ys) = refl
-rows_turned operator (x ∷ xs) [] = refl
-rows_turned operator (x ∷ xs) (y ∷ ys) =
-    ap (λ t. t ∷ zip2 (both (compares (turned operator))) ys xs) (both_turned operator x y)
-    ∙ ap (λ rest. both (compares operator) x y ∷ rest) (rows_turned operator xs ys)
-
-either_turned : (m n : Nullability) → either n m ≡ either m n
-either_turned nulls.NonNullable nulls.NonNullable = refl
-either_turned nulls.NonNullable nulls.Nullable = refl
-either_turned nulls.Nullable nulls.NonNullable = refl
-either_turned nulls.Nullable nulls.Nullable = refl
-
 -- a comparison is the one of the sides changed by the operator turned round
 pub turned_round : (operator : CompareOperator) → TurnedRound operator (turned operator)
-turned_round operator a b =
-    ap (λ k. truths k (zip2 (both (compares (turned operator))) b.rows a.rows)) (either_turned (nullability a.dtype) (nullability b.dtype))
-    ∙ ap (truths (either_column a b)) (rows_turned operator a.rows b.rows)
+turned_round operator = tested-turned (compares (turned operator)) (compares operator) (λ x y. compares_at operator x y (value_cmp x y) refl)

@@ -10,9 +10,9 @@ ghost use Rattle.vortex_array_kinds.specs.Kinds.{bool_column};
 ghost use Rattle.vortex_array_kinds.specs.Truths.{compared};
 ghost use Rattle.vortex_array_compare.specs.Repeated.{repeated};
 
-use crate::answers::answer_column;
+use crate::answers::{pair_answers, value_answers};
 use std::alloc::{AllocError, Global};
-use vortex_array_kinds::{BoolArray, Kind, PlainArray, Validity, Values};
+use vortex_array_kinds::{BoolArray, Kind, PlainArray, Values};
 use vortex_array_types::{CompareOperator, DType, ValueRef};
 use vortex_buffer::BitBuffer;
 
@@ -75,7 +75,7 @@ impl<V: CompareValues> Compare for PlainArray<V> {
         operator: CompareOperator,
     ) -> Result<BoolArray, AllocError> {
         let bits = self.stored().compare_each(alloc, other.stored(), operator)?;
-        let answers = answer_column(alloc, bits, self.validity(), other.validity())?;
+        let answers = pair_answers(alloc, bits, self, other)?;
         Ok(answers)
     }
 
@@ -86,9 +86,8 @@ impl<V: CompareValues> Compare for PlainArray<V> {
         value: ValueRef<'_>,
         operator: CompareOperator,
     ) -> Result<BoolArray, AllocError> {
-        let nulls = Validity::of_values(dtype.nullability());
         let bits = self.stored().compare_with(alloc, value, operator)?;
-        let answers = answer_column(alloc, bits, self.validity(), &nulls)?;
+        let answers = value_answers(alloc, bits, self, dtype.nullability())?;
         Ok(answers)
     }
 }

@@ -1,5 +1,5 @@
 // Columns of texts matched with patterns, which are lent: no text is copied, and no row takes memory.
-ghost use Rattle.std.specs.Prelude.{◌≡◌, ◌<◌, [], All, IfOk, IsTrue, IsUtf8, length, map, slice_index_or};
+ghost use Rattle.std.specs.Prelude.{◌≡◌, ◌<◌, [], All, IfOk, IsTrue, length, map, slice_index_or};
 ghost use Rattle.std.specs.Simd.Lanes.{zip2};
 ghost use Rattle.std.specs.Str.{is_utf8};
 ghost use Rattle.vortex_array_types.specs.Matches.{matches};
@@ -10,32 +10,23 @@ ghost use Rattle.vortex_array_kinds.specs.StringValues.{is_text_type};
 ghost use Rattle.vortex_array_kinds.specs.Truths.{liked};
 ghost use Rattle.vortex_array_compare.specs.Repeated.{repeated};
 
-use crate::answers::answer_column;
+use crate::answers::{pair_answers, value_answers};
+use crate::orders::truth_bits;
 use std::alloc::{AllocError, Global};
-use vortex_array_kinds::{BoolArray, Validity, VarBinViewArray};
+use vortex_array_kinds::{BoolArray, VarBinViewArray};
+use vortex_array_lists::ByteLists;
 use vortex_array_predicates::{LentPattern, text_matches};
-use vortex_array_rows::ByteLists;
 use vortex_array_types::Nullability;
-use vortex_buffer::BitBuffer;
-use vortex_compute::{IndexedSource, collect_lane_bits};
+use vortex_compute::IndexedSource;
 
-// Bytes that are UTF-8, as text. They are not tested again.
+// The text at a place. Its bytes are not tested again to be UTF-8.
 #[inline(always)]
-fn as_text(bytes: &[u8]) -> &str
-    requires { IsUtf8 bytes.now }
-    ensures { result.now ≡ bytes.now }
-{
-    unsafe { std::str::from_utf8_unchecked(bytes) }
-}
-
-// The text at a place.
-#[inline]
 fn text_at(texts: &ByteLists, i: usize) -> &str
     requires inside { i < length texts.now }
     requires texts { All (λ bytes. IsTrue (is_utf8 bytes)) texts.now }
     ensures { result.now ≡ slice_index_or texts.now i [] }
 {
-    as_text(texts.get(i))
+    unsafe { std::str::from_utf8_unchecked(texts.get(i)) }
 }
 
 // Texts and patterns, as many of both: whether the text at each place matches the pattern there.
@@ -112,58 +103,6 @@ impl IndexedSource for PatternsBeside<'_> {
     }
 }
 
-// The truths of a source, as bits.
-#[inline]
-fn truth_bits<S: IndexedSource<Item = bool>>(
-    alloc: Global,
-    truths: &S,
-) -> Result<BitBuffer, AllocError>
-    ensures { IfOk result (λ bits. bits ≡ S.lanes truths.now) }
-{
-    let bits = collect_lane_bits(alloc, truths, |truth: bool| truth)?;
-    Ok(bits)
-}
-
-// The answers for as many texts and patterns.
-fn pair_bits(
-    alloc: Global,
-    texts: &ByteLists,
-    patterns: &ByteLists,
-) -> Result<BitBuffer, AllocError>
-    requires same_length { length texts.now ≡ length patterns.now }
-    requires texts { All IsUtf8 texts.now }
-    requires patterns { All IsUtf8 patterns.now }
-    ensures { IfOk result (λ bits. bits ≡ zip2 (λ text pattern. matches pattern text) texts.now patterns.now) }
-{
-    let bits = truth_bits(alloc, &TextPairs { texts, patterns })?;
-    Ok(bits)
-}
-
-// The answers for texts and one pattern.
-fn pattern_bits(alloc: Global, texts: &ByteLists, pattern: &str) -> Result<BitBuffer, AllocError>
-    requires texts { All IsUtf8 texts.now }
-    ensures { IfOk result (λ bits. bits ≡ map (λ text. matches pattern.now text) texts.now) }
-{
-    let pattern = LentPattern::new(pattern);
-    let bits = truth_bits(
-        alloc,
-        &TextsBeside {
-            texts,
-            pattern: &pattern,
-        },
-    )?;
-    Ok(bits)
-}
-
-// The answers for patterns and one text.
-fn text_bits(alloc: Global, text: &str, patterns: &ByteLists) -> Result<BitBuffer, AllocError>
-    requires patterns { All IsUtf8 patterns.now }
-    ensures { IfOk result (λ bits. bits ≡ map (λ pattern. matches pattern text.now) patterns.now) }
-{
-    let bits = truth_bits(alloc, &PatternsBeside { patterns, text })?;
-    Ok(bits)
-}
-
 /// Row by row whether the text matches the pattern, of two columns of texts of one length, null where a row is null.
 pub fn like_patterns(
     alloc: Global,
@@ -175,8 +114,12 @@ pub fn like_patterns(
     requires patterns { IsTrue (is_text_type (string_column patterns.now).dtype) }
     ensures { IfOk result (λ a. bool_column a ≡ liked (string_column texts.now) (string_column patterns.now)) }
 {
-    let bits = pair_bits(alloc, texts.strings().lists(), patterns.strings().lists())?;
-    let answers = answer_column(alloc, bits, texts.validity(), patterns.validity())?;
+    let pairs = TextPairs {
+        texts: texts.strings().lists(),
+        patterns: patterns.strings().lists(),
+    };
+    let bits = truth_bits(alloc, &pairs)?;
+    let answers = pair_answers(alloc, bits, texts, patterns)?;
     Ok(answers)
 }
 
@@ -191,9 +134,13 @@ pub fn like_pattern(
     requires texts { IsTrue (is_text_type (string_column texts.now).dtype) }
     ensures { IfOk result (λ a. bool_column a ≡ liked (string_column texts.now) (repeated (dtype.Utf8 nullability) (value.Utf8 pattern.now) (length (string_column texts.now).rows))) }
 {
-    let nulls = Validity::of_values(nullability);
-    let bits = pattern_bits(alloc, texts.strings().lists(), pattern)?;
-    let answers = answer_column(alloc, bits, texts.validity(), &nulls)?;
+    let pattern = LentPattern::new(pattern);
+    let beside = TextsBeside {
+        texts: texts.strings().lists(),
+        pattern: &pattern,
+    };
+    let bits = truth_bits(alloc, &beside)?;
+    let answers = value_answers(alloc, bits, texts, nullability)?;
     Ok(answers)
 }
 
@@ -208,8 +155,11 @@ pub fn text_like_patterns(
     requires patterns { IsTrue (is_text_type (string_column patterns.now).dtype) }
     ensures { IfOk result (λ a. bool_column a ≡ liked (repeated (dtype.Utf8 nullability) (value.Utf8 text.now) (length (string_column patterns.now).rows)) (string_column patterns.now)) }
 {
-    let nulls = Validity::of_values(nullability);
-    let bits = text_bits(alloc, text, patterns.strings().lists())?;
-    let answers = answer_column(alloc, bits, &nulls, patterns.validity())?;
+    let beside = PatternsBeside {
+        patterns: patterns.strings().lists(),
+        text,
+    };
+    let bits = truth_bits(alloc, &beside)?;
+    let answers = value_answers(alloc, bits, patterns, nullability)?;
     Ok(answers)
 }

@@ -1,5 +1,6 @@
 // How pairs of lanes stand, and whether an operator holds of them.
 ghost use Rattle.std.specs.Prelude.{◌≡◌, IfOk, length, map};
+ghost use Rattle.std.specs.Ordering.{is_eq};
 ghost use Rattle.std.specs.Simd.Lanes.{zip2};
 ghost use Rattle.vortex_array_types.specs.Order.{accepts};
 
@@ -25,6 +26,36 @@ pub(crate) fn compare_orders<S: IndexedSource<Item = Ordering>>(
         CompareOperator::Gte => collect_lane_bits(alloc, orders, |order: Ordering| order.is_ge()),
         CompareOperator::Lt => collect_lane_bits(alloc, orders, |order: Ordering| order.is_lt()),
         CompareOperator::Lte => collect_lane_bits(alloc, orders, |order: Ordering| order.is_le()),
+    }
+}
+
+// Bits that are the truths of a source.
+#[inline]
+pub(crate) fn truth_bits<S: IndexedSource<Item = bool>>(
+    alloc: Global,
+    truths: &S,
+) -> Result<BitBuffer, AllocError>
+    ensures { IfOk result (λ bits. bits ≡ S.lanes truths.now) }
+{
+    let bits = collect_lane_bits(alloc, truths, |truth: bool| truth)?;
+    Ok(bits)
+}
+
+// The bits of `compare_orders`, where whether two values are equal is told sooner than how they stand.
+pub(crate) fn compare_equal_or_orders<
+    E: IndexedSource<Item = bool>,
+    S: IndexedSource<Item = Ordering>,
+>(alloc: Global, equal: &E, orders: &S, operator: CompareOperator) -> Result<BitBuffer, AllocError>
+    requires equal { E.lanes equal.now ≡ map is_eq (S.lanes orders.now) }
+    ensures { IfOk result (λ bits. bits ≡ map (accepts operator) (S.lanes orders.now)) }
+{
+    match operator {
+        CompareOperator::Eq => truth_bits(alloc, equal),
+        CompareOperator::NotEq => {
+            let same = truth_bits(alloc, equal)?;
+            same.not(alloc)
+        }
+        _ => compare_orders(alloc, orders, operator),
     }
 }
 

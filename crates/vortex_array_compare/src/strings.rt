@@ -1,20 +1,19 @@
 // Texts and bytes compared by their bytes, which are lent.
-ghost use Rattle.std.specs.Prelude.{◌≡◌, IfOk, length, map, not};
+ghost use Rattle.std.specs.Prelude.{◌≡◌, length, map};
 ghost use Rattle.std.specs.Cmp.Lexicographic.{slice_cmp};
 ghost use Rattle.std.specs.Ordering.{is_eq, nat_cmp};
 ghost use Rattle.std.specs.Simd.Lanes.{zip2};
-ghost use Rattle.vortex_array_rows.specs.Fronts.{front_number};
-ghost use Rattle.vortex_array_types.specs.Order.{accepts};
+ghost use Rattle.vortex_array_lists.specs.Fronts.{front_number};
 
 use crate::compare::CompareValues;
-use crate::orders::compare_orders;
+use crate::orders::compare_equal_or_orders;
 use std::alloc::{AllocError, Global};
 use std::cmp::Ordering;
 use vortex_array_kinds::Strings;
-use vortex_array_rows::{ByteLists, front_of};
+use vortex_array_lists::{ByteLists, front_of};
 use vortex_array_types::{CompareOperator, ValueRef};
 use vortex_buffer::BitBuffer;
-use vortex_compute::{IndexedSource, collect_lane_bits};
+use vortex_compute::IndexedSource;
 
 // Strings, as many on both sides: how those at each place stand.
 #[derive(Clone, Copy)]
@@ -76,7 +75,7 @@ struct EqualPairs<'a> {
 impl IndexedSource for EqualPairs<'_> {
     type Item = bool;
 
-    ghost lanes = { λ s. map is_eq (zip2 (slice_cmp nat_cmp) s.left.now s.right.now) };
+    ghost lanes = { λ s. zip2 (λ x y. is_eq (slice_cmp nat_cmp x y)) s.left.now s.right.now };
 
     #[inline(always)]
     fn len(&self) -> usize {
@@ -101,7 +100,7 @@ struct EqualBeside<'a> {
 impl IndexedSource for EqualBeside<'_> {
     type Item = bool;
 
-    ghost lanes = { λ s. map is_eq (map (λ x. slice_cmp nat_cmp x s.constant.now) s.lists.now) };
+    ghost lanes = { λ s. map (λ x. is_eq (slice_cmp nat_cmp x s.constant.now)) s.lists.now };
 
     #[inline(always)]
     fn len(&self) -> usize {
@@ -121,7 +120,10 @@ impl CompareValues for Strings {
         other: &Strings,
         operator: CompareOperator,
     ) -> Result<BitBuffer, AllocError> {
-        let bits = pair_bits(alloc, self.lists(), other.lists(), operator)?;
+        let (left, right) = (self.lists(), other.lists());
+        let equal = EqualPairs { left, right };
+        let orders = StringPairs { left, right };
+        let bits = compare_equal_or_orders(alloc, &equal, &orders, operator)?;
         Ok(bits)
     }
 
@@ -131,76 +133,20 @@ impl CompareValues for Strings {
         value: ValueRef<'_>,
         operator: CompareOperator,
     ) -> Result<BitBuffer, AllocError> {
+        let lists = self.lists();
         let constant = self.kind().bytes_in(value);
-        let bits = beside_bits(alloc, self.lists(), constant, operator)?;
+        let front = front_of(constant);
+        let equal = EqualBeside {
+            lists,
+            constant,
+            front,
+        };
+        let orders = StringsBeside {
+            lists,
+            constant,
+            front,
+        };
+        let bits = compare_equal_or_orders(alloc, &equal, &orders, operator)?;
         Ok(bits)
     }
-}
-
-// The answers for as many lists on both sides.
-fn pair_bits(
-    alloc: Global,
-    left: &ByteLists,
-    right: &ByteLists,
-    operator: CompareOperator,
-) -> Result<BitBuffer, AllocError>
-    requires same_length { length left.now ≡ length right.now }
-    ensures { IfOk result (λ bits. bits ≡ map (accepts operator) (zip2 (slice_cmp nat_cmp) left.now right.now)) }
-{
-    match operator {
-        CompareOperator::Eq => lanes_as_bits(alloc, &EqualPairs { left, right }),
-        CompareOperator::NotEq => lanes_turned_over(alloc, &EqualPairs { left, right }),
-        _ => compare_orders(alloc, &StringPairs { left, right }, operator),
-    }
-}
-
-// The answers for lists and one list.
-fn beside_bits(
-    alloc: Global,
-    lists: &ByteLists,
-    constant: &[u8],
-    operator: CompareOperator,
-) -> Result<BitBuffer, AllocError>
-    ensures { IfOk result (λ bits. bits ≡ map (accepts operator) (map (λ x. slice_cmp nat_cmp x constant.now) lists.now)) }
-{
-    let front = front_of(constant);
-    let equal = EqualBeside {
-        lists,
-        constant,
-        front,
-    };
-    match operator {
-        CompareOperator::Eq => lanes_as_bits(alloc, &equal),
-        CompareOperator::NotEq => lanes_turned_over(alloc, &equal),
-        _ => {
-            let beside = StringsBeside {
-                lists,
-                constant,
-                front,
-            };
-            compare_orders(alloc, &beside, operator)
-        }
-    }
-}
-
-// Truths as bits.
-fn lanes_as_bits<S: IndexedSource<Item = bool>>(
-    alloc: Global,
-    lanes: &S,
-) -> Result<BitBuffer, AllocError>
-    ensures { IfOk result (λ bits. bits ≡ S.lanes lanes.now) }
-{
-    let bits = collect_lane_bits(alloc, lanes, |same: bool| same)?;
-    Ok(bits)
-}
-
-// Truths turned over, as bits.
-fn lanes_turned_over<S: IndexedSource<Item = bool>>(
-    alloc: Global,
-    lanes: &S,
-) -> Result<BitBuffer, AllocError>
-    ensures { IfOk result (λ bits. bits ≡ map not (S.lanes lanes.now)) }
-{
-    let bits = collect_lane_bits(alloc, lanes, |same: bool| !same)?;
-    Ok(bits)
 }

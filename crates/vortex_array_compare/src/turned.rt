@@ -9,6 +9,14 @@ pub fn turned_operator(operator: CompareOperator) -> CompareOperator
     ensures value { result ≡ turned operator }
     ensures meaning { TurnedRound operator result }
 {
+    let turned = the_other_way(operator);
+    turned
+}
+
+// Less and greater changed.
+fn the_other_way(operator: CompareOperator) -> CompareOperator
+    ensures { result ≡ turned operator }
+{
     match operator {
         CompareOperator::Eq => CompareOperator::Eq,
         CompareOperator::NotEq => CompareOperator::NotEq,

@@ -4,19 +4,15 @@ use Rattle.std.specs.Prelude.{IsTrue}
 use Rattle.std.specs.Simd.Lanes.{zip2}
 use Rattle.std.proofs.lemmas.Bool.Decides.{Decides-eqb}
 use Rattle.std.proofs.lemmas.Simd.{length-zip2}
-use Rattle.vortex_buffer.proofs.Unset.{and-all_right, and-none_right}
+use Rattle.vortex_buffer.proofs.Unset.{and-all_left, and-all_right, and-none_left, and-none_right}
 use Rattle.vortex_array_types.specs.declared.types.Nullability.{Nullability}
 use Rattle.vortex_array_types.specs.declared.types.Nullability.TheVariants as nulls
 use Rattle.vortex_array_kinds.specs.Truths.{BothValid, either}
-use Rattle.vortex_array_kinds.specs.Validities.{is_as_long, valid_bits, nullability_of, nullable_validity}
+use Rattle.vortex_array_kinds.specs.Validities.{is_as_long, valid_bits, nullable_validity, present_in_both}
 use Rattle.vortex_array_kinds.specs.declared.validity.Validity.{Validity}
 use Rattle.vortex_array_kinds.specs.declared.validity.Validity.TheVariants.{NonNullable, AllValid, AllInvalid, Bits}
 use Rattle.vortex_array_kinds.proofs.RowLemmas.{long_bits, nullable-long, nullable-type}
 use Rattle.vortex_array_kinds.proofs.TruthRows.{length-valid}
-
-either_plain : (n : Nullability) → n ≡ either n nulls.NonNullable
-either_plain nulls.NonNullable = refl
-either_plain nulls.Nullable = refl
 
 pub either_nullable : (n : Nullability) → nulls.Nullable ≡ either n nulls.Nullable
 either_nullable nulls.NonNullable = refl
@@ -28,32 +24,18 @@ nullable_bits AllValid n = refl
 nullable_bits AllInvalid n = refl
 nullable_bits (Bits bits) n = refl
 
--- a column beside one without nulls
-pub both-plain : (n : ℕ) (a v : Validity) → IsTrue (is_as_long a n) → v ≡ a → BothValid n a NonNullable v
-both-plain n a v k e = rw e (record {
-  long = k;
-  present = sym (and-all_right n (valid_bits a n) (length-valid a n k));
-  nulls = either_plain (nullability_of a);
-})
-
--- a column beside one with no null
-pub both-valid : (n : ℕ) (a v : Validity) → IsTrue (is_as_long a n) → v ≡ nullable_validity a → BothValid n a AllValid v
-both-valid n a v k e = rw e (record {
-  long = rw (nullable-long a n) k;
-  present = nullable_bits a n ∙ sym (and-all_right n (valid_bits a n) (length-valid a n k));
-  nulls = nullable-type a ∙ either_nullable (nullability_of a);
-})
-
--- a column beside nulls
-pub both-invalid : (n : ℕ) (a : Validity) → IsTrue (is_as_long a n) → BothValid n a AllInvalid AllInvalid
-both-invalid n a k = record {
-  long = refl;
-  present = sym (and-none_right n (valid_bits a n) (length-valid a n k));
-  nulls = either_nullable (nullability_of a);
-}
-
 -- bits joined have the length of one of them
-pub joined-long : (xs ys : List Bool) (n : ℕ) → IsTrue (length xs == n) → length ys ≡ n → IsTrue (length (zip2 ◌&&◌ xs ys) == n)
-joined-long xs ys n k e =
-    let x : length xs ≡ n = long_bits xs n k in
-    (Decides-eqb (length (zip2 ◌&&◌ xs ys)) n).1 (length-zip2 ◌&&◌ xs ys (x ∙ sym e) ∙ x)
+joined_long : (xs ys : List Bool) (n : ℕ) → IsTrue (length xs == n) → IsTrue (length ys == n) → IsTrue (length (zip2 ◌&&◌ xs ys) == n)
+joined_long xs ys n k l =
+    (Decides-eqb (length (zip2 ◌&&◌ xs ys)) n).1 (length-zip2 ◌&&◌ xs ys (long_bits xs n k ∙ sym (long_bits ys n l)) ∙ long_bits xs n k)
+
+-- what is present in both is present in each
+pub both_are : (n : ℕ) (a b v : Validity) → IsTrue (is_as_long a n) → IsTrue (is_as_long b n) → v ≡ present_in_both a b → BothValid n a b v
+both_are n NonNullable b v k l e = rw e (record { long = l; present = sym (and-all_left n (valid_bits b n) (sym (length-valid b n l))); nulls = refl })
+both_are n AllValid b v k l e =
+    rw e (record { long = rw (nullable-long b n) l; present = nullable_bits b n ∙ sym (and-all_left n (valid_bits b n) (sym (length-valid b n l))); nulls = nullable-type b })
+both_are n AllInvalid b v k l e = rw e (record { long = refl; present = sym (and-none_left n (valid_bits b n) (sym (length-valid b n l))); nulls = refl })
+both_are n (Bits own) NonNullable v k l e = rw e (record { long = k; present = sym (and-all_right n own (long_bits own n k)); nulls = refl })
+both_are n (Bits own) AllValid v k l e = rw e (record { long = k; present = sym (and-all_right n own (long_bits own n k)); nulls = refl })
+both_are n (Bits own) AllInvalid v k l e = rw e (record { long = refl; present = sym (and-none_right n own (long_bits own n k)); nulls = refl })
+both_are n (Bits own) (Bits bits) v k l e = rw e (record { long = joined_long own bits n k l; present = refl; nulls = refl })

@@ -1,5 +1,5 @@
 -- Columns of truth values that are made by words.
-use Rattle.std.proofs.Common.{ℕ, ◌≡◌, Bool, not, ◌&&◌, ◌||◌, List, length, map, refl, sym, ap, ◌∙◌, Option}
+use Rattle.std.proofs.Common.{ℕ, ◌≡◌, Bool, not, ◌&&◌, ◌||◌, List, ◌∷◌, length, map, refl, sym, ap, ◌∙◌, Option}
 use Rattle.std.specs.Prelude.{IsTrue, option_map}
 use Rattle.std.specs.Simd.Lanes.{zip2}
 use Rattle.std.proofs.lemmas.List.{length-map}
@@ -13,12 +13,12 @@ use Rattle.vortex_array_types.specs.declared.scalar.Value.{Value}
 use Rattle.vortex_array_types.specs.declared.scalar.Value.TheVariants as value
 use Rattle.vortex_array_kinds.specs.Kinds.{bool_column}
 use Rattle.vortex_array_kinds.specs.Parts.{PlainParts}
-use Rattle.vortex_array_kinds.specs.Validities.{is_as_long, valid_bits, nullability_of}
-use Rattle.vortex_array_kinds.specs.Truths.{BothValid, truths, truth_row, answer_in, answers, both_true, is_true, joined_by_and, joined_by_or, joined_strictly, negated}
+use Rattle.vortex_array_kinds.specs.Validities.{is_as_long, nullability_of, row_of, valid_bits}
+use Rattle.vortex_array_kinds.specs.Truths.{BothValid, either, either_column, truths, truth_row, answer_in, answers, both_true, is_true, joined_by_and, joined_by_or, joined_strictly, negated}
 use Rattle.vortex_array_kinds.specs.Known.{KnownWhere, known}
 use Rattle.vortex_array_kinds.specs.declared.validity.Validity.{Validity}
 use Rattle.vortex_array_kinds.proofs.RowLemmas.{length-rows-map}
-use Rattle.vortex_array_kinds.proofs.TruthRows.{length-valid, rows-present, truth_rows, and-rows, or-rows, strict-rows, not-rows, true-rows}
+use Rattle.vortex_array_kinds.proofs.TruthRows.{length-valid, rows-present, truth_rows, joined-rows, and_row, or_row, strict_row, not-rows, true-rows}
 
 -- a column of this type and these rows
 abbrev pub column : DType → List (Option Value) → Column
@@ -45,47 +45,20 @@ same-bits a b ka kb e = sym (length-rows-map (λ x. value.Bool x) a.validity a.v
 long_at : (v : Validity) (m n : ℕ) → m ≡ n → IsTrue (is_as_long v m) → IsTrue (is_as_long v n)
 long_at v m n e k = rw (← e) k
 
--- a conjunction by words
-pub and-column : (a b : PlainParts (List Bool)) (v : Validity) → IsTrue (is_as_long a.validity (length a.values)) → IsTrue (is_as_long b.validity (length b.values)) → length a.values ≡ length b.values
-    → KnownWhere (length (map not a.values)) a.validity (map not a.values) b.validity (map not b.values) v
-    → bool_column (record { values = zip2 ◌&&◌ a.values b.values; validity = v }) ≡ joined_by_and (bool_column a) (bool_column b)
-and-column a b v ka kb e h =
-    let n : length (map not a.values) ≡ length a.values = length-map a.values not in
-    let m : ℕ = length (map not a.values) in
-    truth-column (zip2 ◌&&◌ a.values b.values) v m _ _ _ (length-zip2 ◌&&◌ a.values b.values e ∙ sym n) h.nulls h.present
-    (and-rows a.values b.values (valid_bits a.validity m) (valid_bits b.validity m) (sym e) (length-valid a.validity m (long_at a.validity (length a.values) m (sym n) ka) ∙ n) (length-valid b.validity m (long_at b.validity (length b.values) m (sym e ∙ sym n) kb) ∙ n)
-    ∙ ap (λ given. map truth_row (zip2 and3 given (map answer_in (truth_rows b.values (valid_bits b.validity m))))) (answers-present a m (sym n))
-    ∙ ap (λ given. map truth_row (zip2 and3 (answers (bool_column a)) given)) (answers-present b m (sym e ∙ sym n)))
-
--- a disjunction by words
-pub or-column : (a b : PlainParts (List Bool)) (v : Validity) → IsTrue (is_as_long a.validity (length a.values)) → IsTrue (is_as_long b.validity (length b.values)) → length a.values ≡ length b.values
-    → KnownWhere (length a.values) a.validity a.values b.validity b.values v
-    → bool_column (record { values = zip2 ◌||◌ a.values b.values; validity = v }) ≡ joined_by_or (bool_column a) (bool_column b)
-or-column a b v ka kb e h =
-    let m : ℕ = length a.values in
-    truth-column (zip2 ◌||◌ a.values b.values) v m _ _ _ (length-zip2 ◌||◌ a.values b.values e) h.nulls h.present
-    (or-rows a.values b.values (valid_bits a.validity m) (valid_bits b.validity m) (sym e) (length-valid a.validity m ka) (length-valid b.validity m (long_at b.validity (length b.values) m (sym e) kb))
-    ∙ ap (λ given. map truth_row (zip2 or3 given (map answer_in (truth_rows b.values (valid_bits b.validity m))))) (answers-present a m refl)
-    ∙ ap (λ given. map truth_row (zip2 or3 (answers (bool_column a)) given)) (answers-present b m (sym e)))
-
--- both rows, by words
-pub strict-column : (a b : PlainParts (List Bool)) (v : Validity) → IsTrue (is_as_long a.validity (length a.values)) → IsTrue (is_as_long b.validity (length b.values)) → length a.values ≡ length b.values
-    → BothValid (length a.values) a.validity b.validity v
-    → bool_column (record { values = zip2 ◌&&◌ a.values b.values; validity = v }) ≡ joined_strictly (bool_column a) (bool_column b)
-strict-column a b v ka kb e h =
-    let m : ℕ = length a.values in
-    truth-column (zip2 ◌&&◌ a.values b.values) v m _ _ _ (length-zip2 ◌&&◌ a.values b.values e) h.nulls h.present
-    (strict-rows a.values b.values (valid_bits a.validity m) (valid_bits b.validity m) (sym e) (length-valid a.validity m ka) (length-valid b.validity m (long_at b.validity (length b.values) m (sym e) kb))
-    ∙ ap (λ given. map truth_row (zip2 both_true given (map answer_in (truth_rows b.values (valid_bits b.validity m))))) (answers-present a m refl)
-    ∙ ap (λ given. map truth_row (zip2 both_true (answers (bool_column a)) given)) (answers-present b m (sym e)))
-
--- a negation by words
-pub not-column : (a : PlainParts (List Bool)) → bool_column (record { values = map not a.values; validity = a.validity }) ≡ negated (bool_column a)
-not-column a =
-    let m : ℕ = length a.values in
-    truth-column (map not a.values) a.validity m _ _ _ (length-map a.values not) refl refl
-    (not-rows a.values (valid_bits a.validity m)
-    ∙ ap (λ given. map truth_row (map (option_map not) given)) (answers-present a m refl))
+-- two columns joined row by row, by words
+joined-column : (f : Bool → Bool → Bool) (k : Bool → Bool → Bool → Bool → Bool) (known_of : List Bool → List Bool → List Bool → List Bool → List Bool) (op : Option Bool → Option Bool → Option Bool)
+    → ((x y p q : Bool) (xs ys ps qs : List Bool) → known_of (x ∷ xs) (y ∷ ys) (p ∷ ps) (q ∷ qs) ≡ k x y p q ∷ known_of xs ys ps qs)
+    → ((x y p q : Bool) → row_of (value.Bool (f x y)) (k x y p q) ≡ truth_row (op (answer_in (row_of (value.Bool x) p)) (answer_in (row_of (value.Bool y) q))))
+    → (a b : PlainParts (List Bool)) (v : Validity) (m : ℕ) → IsTrue (is_as_long a.validity (length a.values)) → IsTrue (is_as_long b.validity (length b.values)) → length (bool_column a).rows ≡ length (bool_column b).rows
+    → m ≡ length a.values → valid_bits v m ≡ known_of a.values b.values (valid_bits a.validity m) (valid_bits b.validity m) → nullability_of v ≡ either (nullability_of a.validity) (nullability_of b.validity)
+    → bool_column (record { values = zip2 f a.values b.values; validity = v }) ≡ truths (either_column (bool_column a) (bool_column b)) (zip2 op (answers (bool_column a)) (answers (bool_column b)))
+joined-column f k known_of op next row a b v m ka kb rows long present nulls =
+    let same = same-bits a b ka kb rows in
+    let other : m ≡ length b.values = long ∙ same in
+    truth-column (zip2 f a.values b.values) v m _ _ _ (length-zip2 f a.values b.values same ∙ sym long) nulls present
+    (joined-rows f k known_of op next row a.values b.values (valid_bits a.validity m) (valid_bits b.validity m) (sym same) (length-valid a.validity m (long_at a.validity (length a.values) m (sym long) ka) ∙ long) (length-valid b.validity m (long_at b.validity (length b.values) m (sym other) kb) ∙ long)
+    ∙ ap (λ given. map truth_row (zip2 op given (map answer_in (truth_rows b.values (valid_bits b.validity m))))) (answers-present a m (sym long))
+    ∙ ap (λ given. map truth_row (zip2 op (answers (bool_column a)) given)) (answers-present b m (sym other)))
 
 -- the rows that are true, by words
 pub true-column : (a : PlainParts (List Bool)) → zip2 ◌&&◌ a.values (valid_bits a.validity (length a.values)) ≡ map is_true (answers (bool_column a))
@@ -95,22 +68,27 @@ true-column a = true-rows a.values (valid_bits a.validity (length a.values)) ∙
 pub and-made : (a b : PlainParts (List Bool)) (ds es : List Bool) (v : Validity) (bits : List Bool) (made : PlainParts (List Bool)) → IsTrue (is_as_long a.validity (length a.values)) → IsTrue (is_as_long b.validity (length b.values)) → length (bool_column a).rows ≡ length (bool_column b).rows
     → ds ≡ map not a.values → es ≡ map not b.values → KnownWhere (length ds) a.validity ds b.validity es v → bits ≡ zip2 ◌&&◌ a.values b.values → made ≡ record { values = bits; validity = v }
     → bool_column made ≡ joined_by_and (bool_column a) (bool_column b)
-and-made a b ds es v bits made ka kb same d e known is parts =
-    let known' : KnownWhere (length (map not a.values)) a.validity (map not a.values) b.validity (map not b.values) v = rw (d, e) at known in
-    rw (parts, is) (and-column a b v ka kb (same-bits a b ka kb same) known')
+and-made a b ds es v bits made ka kb same d e h is parts =
+    let words : KnownWhere (length (map not a.values)) a.validity (map not a.values) b.validity (map not b.values) v = rw (d, e) at h in
+    rw (parts, is) (joined-column ◌&&◌ (λ x y p q. ((p && q) || (p && not x)) || (q && not y)) (λ xs ys ps qs. known ps (map not xs) qs (map not ys)) and3 (λ x y p q xs ys ps qs. refl) and_row a b v (length (map not a.values)) ka kb same (length-map a.values not) words.present words.nulls)
 
 -- a disjunction that is made in steps
 pub or-made : (a b : PlainParts (List Bool)) (v : Validity) (bits : List Bool) (made : PlainParts (List Bool)) → IsTrue (is_as_long a.validity (length a.values)) → IsTrue (is_as_long b.validity (length b.values)) → length (bool_column a).rows ≡ length (bool_column b).rows
     → KnownWhere (length a.values) a.validity a.values b.validity b.values v → bits ≡ zip2 ◌||◌ a.values b.values → made ≡ record { values = bits; validity = v }
     → bool_column made ≡ joined_by_or (bool_column a) (bool_column b)
-or-made a b v bits made ka kb same known is parts = rw (parts, is) (or-column a b v ka kb (same-bits a b ka kb same) known)
+or-made a b v bits made ka kb same h is parts =
+    rw (parts, is) (joined-column ◌||◌ (λ x y p q. ((p && q) || (p && x)) || (q && y)) (λ xs ys ps qs. known ps xs qs ys) or3 (λ x y p q xs ys ps qs. refl) or_row a b v (length a.values) ka kb same refl h.present h.nulls)
 
 -- both rows, made in steps
 pub strict-made : (a b : PlainParts (List Bool)) (v : Validity) (bits : List Bool) (made : PlainParts (List Bool)) → IsTrue (is_as_long a.validity (length a.values)) → IsTrue (is_as_long b.validity (length b.values)) → length (bool_column a).rows ≡ length (bool_column b).rows
     → BothValid (length a.values) a.validity b.validity v → bits ≡ zip2 ◌&&◌ a.values b.values → made ≡ record { values = bits; validity = v }
     → bool_column made ≡ joined_strictly (bool_column a) (bool_column b)
-strict-made a b v bits made ka kb same valid is parts = rw (parts, is) (strict-column a b v ka kb (same-bits a b ka kb same) valid)
+strict-made a b v bits made ka kb same h is parts =
+    rw (parts, is) (joined-column ◌&&◌ (λ x y p q. p && q) (λ xs ys ps qs. zip2 ◌&&◌ ps qs) both_true (λ x y p q xs ys ps qs. refl) strict_row a b v (length a.values) ka kb same refl h.present h.nulls)
 
 -- a negation that is made in steps
 pub not-made : (a : PlainParts (List Bool)) (v : Validity) (bits : List Bool) (made : PlainParts (List Bool)) → v ≡ a.validity → bits ≡ map not a.values → made ≡ record { values = bits; validity = v } → bool_column made ≡ negated (bool_column a)
-not-made a v bits made e is parts = rw (parts, is, e) (not-column a)
+not-made a v bits made e is parts =
+    let m : ℕ = length a.values in
+    rw (parts, is, e) (truth-column (map not a.values) a.validity m _ _ _ (length-map a.values not) refl refl
+    (not-rows a.values (valid_bits a.validity m) ∙ ap (λ given. map truth_row (map (option_map not) given)) (answers-present a m refl)))

@@ -49,83 +49,47 @@ rows-present f (Bits bits) xs = some_rows f xs bits
 abbrev pub truth_rows : List Bool → List Bool → List (Option Value)
 truth_rows bits present = zip2 (λ b p. row_of (value.Bool b) p) bits present
 
-and_row : (x y p q : Bool) → row_of (value.Bool (x && y)) (((p && q) || (p && not x)) || (q && not y)) ≡ truth_row (and3 (answer_in (row_of (value.Bool x) p)) (answer_in (row_of (value.Bool y) q)))
-and_row true true true true = refl
-and_row true true true false = refl
-and_row true true false true = refl
-and_row true true false false = refl
-and_row true false true true = refl
-and_row true false true false = refl
+pub and_row : (x y p q : Bool) → row_of (value.Bool (x && y)) (((p && q) || (p && not x)) || (q && not y)) ≡ truth_row (and3 (answer_in (row_of (value.Bool x) p)) (answer_in (row_of (value.Bool y) q)))
+and_row true y true true = refl
+and_row false y true true = refl
+and_row true y true false = refl
+and_row false y true false = refl
+and_row x true false true = refl
 and_row true false false true = refl
-and_row true false false false = refl
-and_row false true true true = refl
-and_row false true true false = refl
-and_row false true false true = refl
-and_row false true false false = refl
-and_row false false true true = refl
-and_row false false true false = refl
 and_row false false false true = refl
-and_row false false false false = refl
+and_row x y false false = refl
 
-or_row : (x y p q : Bool) → row_of (value.Bool (x || y)) (((p && q) || (p && x)) || (q && y)) ≡ truth_row (or3 (answer_in (row_of (value.Bool x) p)) (answer_in (row_of (value.Bool y) q)))
-or_row true true true true = refl
-or_row true true true false = refl
+pub or_row : (x y p q : Bool) → row_of (value.Bool (x || y)) (((p && q) || (p && x)) || (q && y)) ≡ truth_row (or3 (answer_in (row_of (value.Bool x) p)) (answer_in (row_of (value.Bool y) q)))
+or_row true y true true = refl
+or_row false y true true = refl
+or_row true y true false = refl
+or_row false y true false = refl
 or_row true true false true = refl
-or_row true true false false = refl
-or_row true false true true = refl
-or_row true false true false = refl
-or_row true false false true = refl
-or_row true false false false = refl
-or_row false true true true = refl
-or_row false true true false = refl
 or_row false true false true = refl
-or_row false true false false = refl
-or_row false false true true = refl
-or_row false false true false = refl
-or_row false false false true = refl
-or_row false false false false = refl
+or_row x false false true = refl
+or_row x y false false = refl
 
-strict_row : (x y p q : Bool) → row_of (value.Bool (x && y)) (p && q) ≡ truth_row (both_true (answer_in (row_of (value.Bool x) p)) (answer_in (row_of (value.Bool y) q)))
+pub strict_row : (x y p q : Bool) → row_of (value.Bool (x && y)) (p && q) ≡ truth_row (both_true (answer_in (row_of (value.Bool x) p)) (answer_in (row_of (value.Bool y) q)))
 strict_row x y true true = refl
 strict_row x y true false = refl
-strict_row x y false true = refl
-strict_row x y false false = refl
+strict_row x y false q = refl
 
--- bits and known answers give the rows of a conjunction
-pub and-rows : (xs ys ps qs : List Bool) → length ys ≡ length xs → length ps ≡ length xs → length qs ≡ length xs
-    → truth_rows (zip2 ◌&&◌ xs ys) (known ps (map not xs) qs (map not ys)) ≡ map truth_row (zip2 and3 (map answer_in (truth_rows xs ps)) (map answer_in (truth_rows ys qs)))
-and-rows [] [] [] [] e f g = refl
-and-rows [] (y ∷ ys) ps qs e f g = absurd (omega (arith, e))
-and-rows [] [] (p ∷ ps) qs e f g = absurd (omega (arith, f))
-and-rows [] [] [] (q ∷ qs) e f g = absurd (omega (arith, g))
-and-rows (x ∷ xs) [] ps qs e f g = absurd (omega (arith, e))
-and-rows (x ∷ xs) (y ∷ ys) [] qs e f g = absurd (omega (arith, f))
-and-rows (x ∷ xs) (y ∷ ys) (p ∷ ps) [] e f g = absurd (omega (arith, g))
-and-rows (x ∷ xs) (y ∷ ys) (p ∷ ps) (q ∷ qs) e f g = cons_same _ _ _ _ (and_row x y p q) (and-rows xs ys ps qs (omega (arith, e)) (omega (arith, f)) (omega (arith, g)))
-
--- bits and known answers give the rows of a disjunction
-pub or-rows : (xs ys ps qs : List Bool) → length ys ≡ length xs → length ps ≡ length xs → length qs ≡ length xs
-    → truth_rows (zip2 ◌||◌ xs ys) (known ps xs qs ys) ≡ map truth_row (zip2 or3 (map answer_in (truth_rows xs ps)) (map answer_in (truth_rows ys qs)))
-or-rows [] [] [] [] e f g = refl
-or-rows [] (y ∷ ys) ps qs e f g = absurd (omega (arith, e))
-or-rows [] [] (p ∷ ps) qs e f g = absurd (omega (arith, f))
-or-rows [] [] [] (q ∷ qs) e f g = absurd (omega (arith, g))
-or-rows (x ∷ xs) [] ps qs e f g = absurd (omega (arith, e))
-or-rows (x ∷ xs) (y ∷ ys) [] qs e f g = absurd (omega (arith, f))
-or-rows (x ∷ xs) (y ∷ ys) (p ∷ ps) [] e f g = absurd (omega (arith, g))
-or-rows (x ∷ xs) (y ∷ ys) (p ∷ ps) (q ∷ qs) e f g = cons_same _ _ _ _ (or_row x y p q) (or-rows xs ys ps qs (omega (arith, e)) (omega (arith, f)) (omega (arith, g)))
-
--- bits that are both set give the rows that are both true
-pub strict-rows : (xs ys ps qs : List Bool) → length ys ≡ length xs → length ps ≡ length xs → length qs ≡ length xs
-    → truth_rows (zip2 ◌&&◌ xs ys) (zip2 ◌&&◌ ps qs) ≡ map truth_row (zip2 both_true (map answer_in (truth_rows xs ps)) (map answer_in (truth_rows ys qs)))
-strict-rows [] [] [] [] e f g = refl
-strict-rows [] (y ∷ ys) ps qs e f g = absurd (omega (arith, e))
-strict-rows [] [] (p ∷ ps) qs e f g = absurd (omega (arith, f))
-strict-rows [] [] [] (q ∷ qs) e f g = absurd (omega (arith, g))
-strict-rows (x ∷ xs) [] ps qs e f g = absurd (omega (arith, e))
-strict-rows (x ∷ xs) (y ∷ ys) [] qs e f g = absurd (omega (arith, f))
-strict-rows (x ∷ xs) (y ∷ ys) (p ∷ ps) [] e f g = absurd (omega (arith, g))
-strict-rows (x ∷ xs) (y ∷ ys) (p ∷ ps) (q ∷ qs) e f g = cons_same _ _ _ _ (strict_row x y p q) (strict-rows xs ys ps qs (omega (arith, e)) (omega (arith, f)) (omega (arith, g)))
+-- two lists of bits, each under bits that say which of them are present, joined row by row
+pub joined-rows : (f : Bool → Bool → Bool) (k : Bool → Bool → Bool → Bool → Bool) (known_of : List Bool → List Bool → List Bool → List Bool → List Bool) (op : Option Bool → Option Bool → Option Bool)
+    → ((x y p q : Bool) (xs ys ps qs : List Bool) → known_of (x ∷ xs) (y ∷ ys) (p ∷ ps) (q ∷ qs) ≡ k x y p q ∷ known_of xs ys ps qs)
+    → ((x y p q : Bool) → row_of (value.Bool (f x y)) (k x y p q) ≡ truth_row (op (answer_in (row_of (value.Bool x) p)) (answer_in (row_of (value.Bool y) q))))
+    → (xs ys ps qs : List Bool) → length ys ≡ length xs → length ps ≡ length xs → length qs ≡ length xs
+    → truth_rows (zip2 f xs ys) (known_of xs ys ps qs) ≡ map truth_row (zip2 op (map answer_in (truth_rows xs ps)) (map answer_in (truth_rows ys qs)))
+joined-rows f k known_of op next row [] [] [] [] a b c = refl
+joined-rows f k known_of op next row [] (y ∷ ys) ps qs a b c = absurd (omega (arith, a))
+joined-rows f k known_of op next row [] [] (p ∷ ps) qs a b c = absurd (omega (arith, b))
+joined-rows f k known_of op next row [] [] [] (q ∷ qs) a b c = absurd (omega (arith, c))
+joined-rows f k known_of op next row (x ∷ xs) [] ps qs a b c = absurd (omega (arith, a))
+joined-rows f k known_of op next row (x ∷ xs) (y ∷ ys) [] qs a b c = absurd (omega (arith, b))
+joined-rows f k known_of op next row (x ∷ xs) (y ∷ ys) (p ∷ ps) [] a b c = absurd (omega (arith, c))
+joined-rows f k known_of op next row (x ∷ xs) (y ∷ ys) (p ∷ ps) (q ∷ qs) a b c =
+    ap (truth_rows (f x y ∷ zip2 f xs ys)) (next x y p q xs ys ps qs)
+    ∙ cons_same _ _ _ _ (row x y p q) (joined-rows f k known_of op next row xs ys ps qs (omega (arith, a)) (omega (arith, b)) (omega (arith, c)))
 
 not_row : (x p : Bool) → row_of (value.Bool (not x)) p ≡ truth_row (option_map not (answer_in (row_of (value.Bool x) p)))
 not_row x true = refl

@@ -1,12 +1,12 @@
 -- Which rows a column of texts or bytes takes.
-use Rattle.std.specs.Prelude.{ℕ, Bool, IsTrue, IsFalse, List, [], Option, Some, None, IsUtf8}
+use Rattle.std.specs.Prelude.{◌≡◌, ℕ, Bool, IsTrue, IsFalse, List, [], ◌∷◌, ◌++◌, length, Option, Some, None, IsUtf8}
 use Rattle.vortex_array_types.specs.Row.{is_nullable}
 use Rattle.vortex_array_types.specs.declared.types.DType.{DType}
 use Rattle.vortex_array_types.specs.declared.types.Nullability.{Nullability}
 use Rattle.vortex_array_types.specs.declared.types.Nullability.TheVariants as nulls
 use Rattle.vortex_array_kinds.specs.StringValues.{is_text_type}
 use Rattle.vortex_array_kinds.specs.declared.validity.Validity.{Validity}
-use Rattle.vortex_array_kinds.specs.declared.validity.Validity.TheVariants.{NonNullable, Bits}
+use Rattle.vortex_array_kinds.specs.declared.validity.Validity.TheVariants.{NonNullable, AllValid, AllInvalid, Bits}
 use Rattle.vortex_array_kinds.specs.declared.builder.PushError.{PushError}
 use Rattle.vortex_array_kinds.specs.declared.builder.PushError.TheVariants.{WrongType, NotUtf8, OutOfMemory}
 
@@ -23,12 +23,19 @@ Refuses t (Some bytes) WrongType = ⊥
 Refuses t (Some bytes) NotUtf8 = IsTrue (is_text_type t) × (¬ IsUtf8 bytes)
 Refuses t row OutOfMemory = Admits t row
 
--- in a type with nulls, for each row whether it is present: of no row yet
-abbrev pub no_row : Nullability → Option (List Bool)
-no_row nulls.NonNullable = None
-no_row nulls.Nullable = Some []
+-- the validity of no row yet
+abbrev pub no_row : Nullability → Validity
+no_row nulls.NonNullable = NonNullable
+no_row nulls.Nullable = Bits []
 
--- the validity of the rows so far
-abbrev pub validity_so_far : Option (List Bool) → Validity
-validity_so_far None = NonNullable
-validity_so_far (Some bits) = Bits bits
+-- the validity with one more row, which is present or not
+abbrev pub with_row : Bool → Validity → Validity
+with_row present (Bits bits) = Bits (bits ++ present ∷ [])
+with_row present validity = validity
+
+-- the validity of so many rows that can be added to: bits in a type with nulls
+abbrev pub Grows : Validity → ℕ → Type 0
+Grows NonNullable n = Unit
+Grows AllValid n = ⊥
+Grows AllInvalid n = ⊥
+Grows (Bits bits) n = length bits ≡ n

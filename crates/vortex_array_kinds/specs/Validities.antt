@@ -1,7 +1,6 @@
 -- Which rows are not null.
-use Rattle.std.specs.Prelude.{ℕ, ◌==◌, Bool, true, false, List, length, map, Option, Some, None, slice_index_or, replicate}
+use Rattle.std.specs.Prelude.{ℕ, ◌==◌, ◌&&◌, Bool, cond, true, false, List, length, map, Option, Some, None, slice_index_or, replicate}
 use Rattle.std.specs.Simd.Lanes.{zip2}
-pub use Rattle.vortex_array_rows.specs.Rows.{row_of}
 use Rattle.vortex_array_types.specs.declared.types.Nullability.{Nullability}
 use Rattle.vortex_array_types.specs.declared.types.Nullability.TheVariants.{NonNullable as WithoutNulls, Nullable}
 use Rattle.vortex_array_kinds.specs.declared.validity.Validity.{Validity}
@@ -13,6 +12,10 @@ nullability_of NonNullable = WithoutNulls
 nullability_of AllValid = Nullable
 nullability_of AllInvalid = Nullable
 nullability_of (Bits bits) = Nullable
+
+-- the value where the bit is set, else null
+abbrev pub row_of : {X : Type 0} → X → Bool → Option X
+row_of x valid = cond valid (Some x) None
 
 -- the values as rows: null where the validity says so
 abbrev pub rows_under : {X : Type 0} → Validity → List X → List (Option X)
@@ -55,3 +58,13 @@ has_none NonNullable = true
 has_none AllValid = true
 has_none AllInvalid = false
 has_none (Bits bits) = false
+
+-- the rows that are not null in two columns
+abbrev pub present_in_both : Validity → Validity → Validity
+present_in_both NonNullable b = b
+present_in_both AllValid b = nullable_validity b
+present_in_both AllInvalid b = AllInvalid
+present_in_both (Bits own) NonNullable = Bits own
+present_in_both (Bits own) AllValid = Bits own
+present_in_both (Bits own) AllInvalid = AllInvalid
+present_in_both (Bits own) (Bits bits) = Bits (zip2 ◌&&◌ own bits)

@@ -1,9 +1,8 @@
 // Columns of texts and of bytes that are made row by row.
-ghost use Rattle.std.specs.Prelude.{◌≡◌, ◌++◌, ◌∷◌, [], IsTrue, IfErr, OnOk, OnErr, None, Some, false, length, option_copied, option_map, take, true};
+ghost use Rattle.std.specs.Prelude.{◌≡◌, ◌++◌, ◌∷◌, [], IsTrue, IfErr, OnOk, OnErr, None, Some, false, length, option_copied, option_map, true};
 ghost use Rattle.vortex_array_kinds.specs.Kinds.{string_column};
-ghost use Rattle.vortex_array_kinds.specs.Pushed.{Admits, Refuses, no_row, validity_so_far};
+ghost use Rattle.vortex_array_kinds.specs.Pushed.{Admits, Grows, Refuses, no_row, with_row};
 ghost use Rattle.vortex_array_kinds.specs.StringValues.{IsString, bytes_value, is_string_type, string_type};
-ghost use Rattle.vortex_array_kinds.specs.Validities.{is_as_long};
 ghost use Rattle.vortex_array_kinds.specs.declared.builder.PushError.TheVariants as errors;
 
 use crate::plain::PlainArray;
@@ -12,7 +11,7 @@ use crate::validity::Validity;
 use std::alloc::{AllocError, Global};
 use std::marker::Model;
 use thiserror::Error;
-use vortex_array_rows::ByteLists;
+use vortex_array_lists::ByteLists;
 use vortex_array_types::{DType, Nullability};
 use vortex_buffer::{BitBuffer, Buffer};
 
@@ -33,30 +32,29 @@ pub enum PushError {
 /// A column of texts or of bytes that is made row by row. Contracts see the column so far.
 pub struct VarBinViewBuilder {
     strings: Strings,
-    present: Option<BitBuffer>,
+    validity: Validity,
 }
 
 impl Drop for VarBinViewBuilder {
     fn drop(self) {
         let VarBinViewBuilder {
             strings: _strings,
-            present: _present,
+            validity: _validity,
         } = self;
     }
 }
 
 impl Model for VarBinViewBuilder {
-    ghost use Rattle.std.specs.Prelude.{IsTrue, length};
+    ghost use Rattle.std.specs.Prelude.{length};
     ghost use Rattle.vortex_array_types.specs.Row.{Column};
     ghost use Rattle.vortex_array_kinds.specs.Kinds.{string_column};
-    ghost use Rattle.vortex_array_kinds.specs.Pushed.{validity_so_far};
-    ghost use Rattle.vortex_array_kinds.specs.Validities.{is_as_long};
+    ghost use Rattle.vortex_array_kinds.specs.Pushed.{Grows};
 
     ghost Value = { Column };
 
-    ghost view = { λ b. string_column (record { values = b.strings; validity = validity_so_far b.present }) };
+    ghost view = { λ b. string_column (record { values = b.strings; validity = b.validity }) };
 
-    ghost invariant = { λ b. IsTrue (is_as_long (validity_so_far b.present) (length b.strings.lists)) };
+    ghost invariant = { λ b. Grows b.validity (length b.strings.lists) };
 }
 
 impl VarBinViewBuilder {
@@ -93,10 +91,10 @@ impl VarBinViewBuilder {
         ensures err { IfErr result (Refuses self.old.dtype None) }
         ensures kept { OnErr result (self.new ≡ self.old) }
     {
-        if self.present.is_none() {
-            return Err(PushError::WrongType);
+        match self.validity.nullability() {
+            Nullability::NonNullable => Err(PushError::WrongType),
+            Nullability::Nullable => push_row(&mut self.strings, &mut self.validity, &[], false),
         }
-        push_row(&mut self.strings, &mut self.present, &[], false)
     }
 
     // One more row, of bytes.
@@ -109,15 +107,15 @@ impl VarBinViewBuilder {
         if !self.strings.kind().holds(bytes) {
             return Err(PushError::NotUtf8);
         }
-        push_row(&mut self.strings, &mut self.present, bytes, true)
+        push_row(&mut self.strings, &mut self.validity, bytes, true)
     }
 
     /// The column. It takes no memory.
     pub fn finish(self) -> VarBinViewArray
         ensures { string_column result ≡ self }
     {
-        let VarBinViewBuilder { strings, present } = self;
-        PlainArray::new(strings, validity_of_present(present))
+        let VarBinViewBuilder { strings, validity } = self;
+        PlainArray::new(strings, validity)
     }
 }
 
@@ -127,47 +125,41 @@ fn empty_builder(alloc: Global, kind: StringKind, nullability: Nullability) -> V
 {
     VarBinViewBuilder {
         strings: Strings::new(kind, ByteLists::new(alloc)),
-        present: no_bits(alloc, nullability),
+        validity: of_no_row(alloc, nullability),
     }
 }
 
-// For no row whether it is present, in a type with nulls.
-fn no_bits(alloc: Global, nullability: Nullability) -> Option<BitBuffer>
+// The validity of no row, in a type with nulls or without.
+fn of_no_row(alloc: Global, nullability: Nullability) -> Validity
     ensures { result ≡ no_row nullability }
 {
     match nullability {
-        Nullability::NonNullable => None,
-        Nullability::Nullable => Some(BitBuffer::from_words(Buffer::from_vec(Vec::new(alloc)), 0)),
+        Nullability::NonNullable => Validity::NonNullable,
+        Nullability::Nullable => {
+            Validity::Bits(BitBuffer::from_words(Buffer::from_vec(Vec::new(alloc)), 0))
+        }
     }
 }
 
-// The validity of rows of which those are present whose bit is set, or all where there are no bits.
-fn validity_of_present(present: Option<BitBuffer>) -> Validity
-    ensures { result ≡ validity_so_far present }
-{
-    match present {
-        None => Validity::NonNullable,
-        Some(bits) => Validity::Bits(bits),
-    }
-}
-
-// One more list of bytes and, where there are such bits, whether it is present. Where memory is wanting both stay.
+// One more list of bytes and, in a type with nulls, whether it is present. Where memory is wanting both stay.
 fn push_row(
     strings: &mut Strings,
-    present: &mut Option<BitBuffer>,
+    validity: &mut Validity,
     bytes: &[u8],
     is_present: bool,
 ) -> Result<(), PushError>
+    requires grows { Grows validity.old (length strings.old.lists) }
     requires text { IsString strings.old.kind bytes.now }
     ensures strings { OnOk result (strings.new ≡ record strings.old { lists = strings.old.lists ++ bytes.now ∷ [] }) }
-    ensures present { OnOk result (present.new ≡ option_map (λ bits. bits ++ is_present ∷ []) present.old) }
+    ensures validity { OnOk result (validity.new ≡ with_row is_present validity.old) }
     ensures err { IfErr result (λ e. e ≡ errors.OutOfMemory) }
     ensures strings_kept { OnErr result (strings.new ≡ strings.old) }
-    ensures present_kept { OnErr result (present.new ≡ present.old) }
+    ensures validity_kept { OnErr result (validity.new ≡ validity.old) }
 {
-    let pushed = match present {
-        None => strings.push(bytes),
-        Some(bits) => push_both(strings, bits, bytes, is_present),
+    let pushed = match validity {
+        Validity::NonNullable => strings.push(bytes),
+        Validity::Bits(bits) => push_both(strings, bits, bytes, is_present),
+        Validity::AllValid | Validity::AllInvalid => unreachable!(),
     };
     match pushed {
         Ok(()) => Ok(()),

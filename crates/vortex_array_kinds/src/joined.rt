@@ -1,10 +1,7 @@
 // Which rows are not null, of two columns together.
-ghost use Rattle.std.specs.Prelude.{◌≡◌, ◌&&◌, ℕ, IfOk, IsTrue, length, replicate, true};
-ghost use Rattle.std.specs.Simd.Lanes.{zip2};
+ghost use Rattle.std.specs.Prelude.{◌≡◌, ℕ, IfOk, IsTrue, replicate, true};
 ghost use Rattle.vortex_array_kinds.specs.Truths.{BothValid};
-ghost use Rattle.vortex_array_kinds.specs.Validities.{is_as_long, nullability_of, nullable_validity, valid_bits};
-ghost use Rattle.vortex_array_kinds.specs.declared.validity.Validity.TheVariants.{Bits};
-ghost use Rattle.vortex_array_types.specs.declared.types.Nullability.TheVariants.{Nullable};
+ghost use Rattle.vortex_array_kinds.specs.Validities.{is_as_long, nullability_of, present_in_both, valid_bits};
 
 use crate::validity::Validity;
 use std::alloc::{AllocError, Global};
@@ -41,13 +38,8 @@ impl Validity {
         requires other_long { IsTrue (is_as_long other.now len) }
         ensures { IfOk result (λ v. BothValid len self.now other.now v) }
     {
-        let _ = len;
-        match other {
-            Validity::NonNullable => self.try_clone(alloc),
-            Validity::AllValid => nullable_copy(alloc, self),
-            Validity::AllInvalid => Ok(Validity::AllInvalid),
-            Validity::Bits(bits) => within(alloc, self, bits, len),
-        }
+        let both = both_present(alloc, self, other, len)?;
+        Ok(both)
     }
 }
 
@@ -60,49 +52,25 @@ fn all_set(alloc: Global, len: usize) -> Result<BitBuffer, AllocError>
     Ok(all)
 }
 
-// A copy that makes a type with nulls.
-fn nullable_copy(alloc: Global, validity: &Validity) -> Result<Validity, AllocError>
-    ensures { IfOk result (λ v. v ≡ nullable_validity validity.now) }
-{
-    let copy = validity.try_clone(alloc)?;
-    Ok(copy.into_nullable())
-}
-
-// The rows that are not null and whose bit is set.
-fn within(
+// Of so many rows those that are present in both columns.
+fn both_present(
     alloc: Global,
-    validity: &Validity,
-    bits: &BitBuffer,
+    left: &Validity,
+    right: &Validity,
     len: usize,
 ) -> Result<Validity, AllocError>
-    requires long { IsTrue (is_as_long validity.now len) }
-    requires count { length bits.now ≡ len }
-    ensures long { IfOk result (λ v. IsTrue (is_as_long v len)) }
-    ensures present { IfOk result (λ v. valid_bits v len ≡ zip2 ◌&&◌ (valid_bits validity.now len) bits.now) }
-    ensures nulls { IfOk result (λ v. nullability_of v ≡ Nullable) }
+    requires left_long { IsTrue (is_as_long left.now len) }
+    requires right_long { IsTrue (is_as_long right.now len) }
+    ensures { IfOk result (λ v. v ≡ present_in_both left.now right.now) }
 {
     let _ = len;
-    match validity {
-        Validity::NonNullable => copy_of_bits(alloc, bits),
-        Validity::AllValid => copy_of_bits(alloc, bits),
-        Validity::AllInvalid => Ok(Validity::AllInvalid),
-        Validity::Bits(own) => joined_bits(alloc, own, bits),
+    match (left, right) {
+        (Validity::NonNullable, _) => right.try_clone(alloc),
+        (Validity::AllValid, _) => right.try_clone(alloc).map(Validity::into_nullable),
+        (Validity::AllInvalid, _) | (Validity::Bits(_), Validity::AllInvalid) => Ok(
+            Validity::AllInvalid,
+        ),
+        (Validity::Bits(_), Validity::NonNullable | Validity::AllValid) => left.try_clone(alloc),
+        (Validity::Bits(own), Validity::Bits(bits)) => own.and(alloc, bits).map(Validity::Bits),
     }
-}
-
-// The rows whose bit is set.
-fn copy_of_bits(alloc: Global, bits: &BitBuffer) -> Result<Validity, AllocError>
-    ensures { IfOk result (λ v. v ≡ Bits bits.now) }
-{
-    let copy = bits.try_clone(alloc)?;
-    Ok(Validity::Bits(copy))
-}
-
-// The rows whose bits are both set.
-fn joined_bits(alloc: Global, left: &BitBuffer, right: &BitBuffer) -> Result<Validity, AllocError>
-    requires { length left.now ≡ length right.now }
-    ensures { IfOk result (λ v. v ≡ Bits (zip2 ◌&&◌ left.now right.now)) }
-{
-    let bits = left.and(alloc, right)?;
-    Ok(Validity::Bits(bits))
 }

@@ -1,6 +1,5 @@
 // Truth values joined in three values, word by word.
-ghost use Rattle.std.specs.Prelude.{◌≡◌, ◌&&◌, ◌||◌, ℕ, IfOk, IsTrue, false, length, map, replicate, true};
-ghost use Rattle.std.specs.Simd.Lanes.{zip2};
+ghost use Rattle.std.specs.Prelude.{◌≡◌, ℕ, IfOk, IsTrue, false, length, map, replicate, true};
 ghost use Rattle.vortex_buffer.specs.Mask.{mask_bits};
 ghost use Rattle.vortex_array_types.specs.declared.types.Nullability.TheVariants.{Nullable};
 ghost use Rattle.vortex_array_kinds.specs.Kinds.{bool_column};

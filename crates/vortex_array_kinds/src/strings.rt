@@ -11,7 +11,7 @@ use crate::plain::PlainArray;
 use crate::values::Values;
 use std::alloc::{AllocError, Global};
 use std::marker::Model;
-use vortex_array_rows::ByteLists;
+use vortex_array_lists::ByteLists;
 use vortex_array_types::{DType, Nullability, ValueRef};
 
 /// Whether lists of bytes are texts.

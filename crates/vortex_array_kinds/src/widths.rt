@@ -8,9 +8,8 @@ ghost use Rattle.vortex_array_kinds.specs.Kinds.{numbers_of, ptype_of};
 ghost use Rattle.vortex_array_kinds.specs.Numbers.{wide_number};
 
 use crate::primitives::PrimitiveBuffer;
-use vortex_array_types::NativeValue;
+use vortex_array_types::{NativeValue, item_if};
 use vortex_buffer::Buffer;
-use vortex_compute::LaneDefault;
 
 /// A number of 64 bits, with a sign or without: one of any width stands in it.
 #[derive(Clone, Copy)]
@@ -24,7 +23,7 @@ pub enum WideNumber {
 /// A native type of whole numbers as columns use it: its order is that of its numbers, its items are a buffer of its width,
 /// and each is written in another width by native instructions. A number of any width but `u64` goes out as an `i64`, which
 /// holds it; one of `u64` as it is. So the eight widths need two ways in and one way out each.
-pub trait PrimitiveWidth: NativeValue + Ord + LaneDefault {
+pub trait PrimitiveWidth: NativeValue + Ord {
     /// The numbers of a buffer of this width.
     fn items(buffer: &PrimitiveBuffer) -> &Buffer<Self>
         requires { ptype_of buffer.now ≡ Self.width }
@@ -84,20 +83,12 @@ impl PrimitiveWidth for u8 {
 
     #[inline(always)]
     fn from_signed(number: i64) -> Option<u8> {
-        if number >= 0 && number < 256 {
-            Some(number as u8)
-        } else {
-            None
-        }
+        item_if!(number >= 0 && number < 256, number as u8)
     }
 
     #[inline(always)]
     fn from_unsigned(number: u64) -> Option<u8> {
-        if number < 256 {
-            Some(number as u8)
-        } else {
-            None
-        }
+        item_if!(number < 256, number as u8)
     }
 
     #[inline(always)]
@@ -125,20 +116,12 @@ impl PrimitiveWidth for u16 {
 
     #[inline(always)]
     fn from_signed(number: i64) -> Option<u16> {
-        if number >= 0 && number < 65536 {
-            Some(number as u16)
-        } else {
-            None
-        }
+        item_if!(number >= 0 && number < 65536, number as u16)
     }
 
     #[inline(always)]
     fn from_unsigned(number: u64) -> Option<u16> {
-        if number < 65536 {
-            Some(number as u16)
-        } else {
-            None
-        }
+        item_if!(number < 65536, number as u16)
     }
 
     #[inline(always)]
@@ -166,20 +149,12 @@ impl PrimitiveWidth for u32 {
 
     #[inline(always)]
     fn from_signed(number: i64) -> Option<u32> {
-        if number >= 0 && number < 4294967296 {
-            Some(number as u32)
-        } else {
-            None
-        }
+        item_if!(number >= 0 && number < 4294967296, number as u32)
     }
 
     #[inline(always)]
     fn from_unsigned(number: u64) -> Option<u32> {
-        if number < 4294967296 {
-            Some(number as u32)
-        } else {
-            None
-        }
+        item_if!(number < 4294967296, number as u32)
     }
 
     #[inline(always)]
@@ -207,11 +182,7 @@ impl PrimitiveWidth for u64 {
 
     #[inline(always)]
     fn from_signed(number: i64) -> Option<u64> {
-        if number >= 0 {
-            Some(number as u64)
-        } else {
-            None
-        }
+        item_if!(number >= 0, number as u64)
     }
 
     #[inline(always)]
@@ -244,20 +215,12 @@ impl PrimitiveWidth for i8 {
 
     #[inline(always)]
     fn from_signed(number: i64) -> Option<i8> {
-        if number >= -128 && number < 128 {
-            Some(number as i8)
-        } else {
-            None
-        }
+        item_if!(number >= -128 && number < 128, number as i8)
     }
 
     #[inline(always)]
     fn from_unsigned(number: u64) -> Option<i8> {
-        if number < 128 {
-            Some(number as i8)
-        } else {
-            None
-        }
+        item_if!(number < 128, number as i8)
     }
 
     #[inline(always)]
@@ -285,20 +248,12 @@ impl PrimitiveWidth for i16 {
 
     #[inline(always)]
     fn from_signed(number: i64) -> Option<i16> {
-        if number >= -32768 && number < 32768 {
-            Some(number as i16)
-        } else {
-            None
-        }
+        item_if!(number >= -32768 && number < 32768, number as i16)
     }
 
     #[inline(always)]
     fn from_unsigned(number: u64) -> Option<i16> {
-        if number < 32768 {
-            Some(number as i16)
-        } else {
-            None
-        }
+        item_if!(number < 32768, number as i16)
     }
 
     #[inline(always)]
@@ -326,20 +281,12 @@ impl PrimitiveWidth for i32 {
 
     #[inline(always)]
     fn from_signed(number: i64) -> Option<i32> {
-        if number >= -2147483648 && number < 2147483648 {
-            Some(number as i32)
-        } else {
-            None
-        }
+        item_if!(number >= -2147483648 && number < 2147483648, number as i32)
     }
 
     #[inline(always)]
     fn from_unsigned(number: u64) -> Option<i32> {
-        if number < 2147483648 {
-            Some(number as i32)
-        } else {
-            None
-        }
+        item_if!(number < 2147483648, number as i32)
     }
 
     #[inline(always)]
@@ -372,11 +319,7 @@ impl PrimitiveWidth for i64 {
 
     #[inline(always)]
     fn from_unsigned(number: u64) -> Option<i64> {
-        if number < 9223372036854775808 {
-            Some(number as i64)
-        } else {
-            None
-        }
+        item_if!(number < 9223372036854775808, number as i64)
     }
 
     #[inline(always)]

@@ -4,9 +4,7 @@ use Rattle.std.specs.Prelude.{IsTrue, is_some, ◌⊎◌}
 use Rattle.std.proofs.lemmas.Bool.{cases_lt, false≢true, true≢false}
 use Rattle.vortex_array_types.specs.declared.scalar.Value.{Value}
 use Rattle.vortex_array_order.specs.InOrder.{at_most}
-use Rattle.vortex_array_order.specs.Asked.{ExtremesBelow}
-use Rattle.vortex_array_order.specs.declared.places.ExtremePlaces.{ExtremePlaces}
-use Rattle.vortex_array_order.specs.Extremes.{ExtremesOf, IsExtreme, NoneOf}
+use Rattle.vortex_array_order.specs.Extremes.{ExtremesOf, IsExtreme, IsFirstValue}
 use Rattle.vortex_array_order.proofs.OrderLaws.{at_most-itself, at_most-trans}
 
 pub is-none : (a : Option Value) → is_some a ≡ false → a ≡ None
@@ -32,17 +30,17 @@ at-most = record { itself = at_most-itself; trans = at_most-trans }
 pub at-least : IsPreorder (λ a b. at_most b a)
 at-least = record { itself = at_most-itself; trans = λ a b c h k. at_most-trans c b a k h }
 
-extreme_first : (stand : Option Value → Option Value → Bool) → IsPreorder stand → (rows : List (Option Value)) (i : ℕ) → NoneOf rows i → is_some (get_or rows i None) ≡ true → IsExtreme stand rows (i + 1) i
-extreme_first stand order rows i h s = record {
+extreme_first : (stand : Option Value → Option Value → Bool) → IsPreorder stand → (rows : List (Option Value)) (i : ℕ) → IsFirstValue rows i → IsExtreme stand rows (i + 1) i
+extreme_first stand order rows i h = record {
   within = omega arith;
-  some = s;
+  some = h.some;
   bound = more (λ j. is_some (get_or rows j None) ≡ true → IsTrue (stand (get_or rows i None) (get_or rows j None))) i
-      (λ j l t. absurd (false≢true (sym (ap is_some (h.null j l)) ∙ t))) (λ t. order.itself (get_or rows i None));
+      (λ j l t. absurd (false≢true (sym (ap is_some (h.none j l)) ∙ t))) (λ t. order.itself (get_or rows i None));
 }
 
 -- the first value is both extremes
-pub extremes-first : (rows : List (Option Value)) (i : ℕ) → NoneOf rows i → is_some (get_or rows i None) ≡ true → ExtremesOf rows (i + 1) i i
-extremes-first rows i h s = record { least = extreme_first at_most at-most rows i h s; greatest = extreme_first (λ a b. at_most b a) at-least rows i h s }
+pub extremes-first : (rows : List (Option Value)) (i : ℕ) → IsFirstValue rows i → ExtremesOf rows (i + 1) i i
+extremes-first rows i h = record { least = extreme_first at_most at-most rows i h; greatest = extreme_first (λ a b. at_most b a) at-least rows i h }
 
 -- the next value is the extreme where it stands so to the extreme before
 pub extreme-new : (stand : Option Value → Option Value → Bool) → IsPreorder stand → (rows : List (Option Value)) (i place : ℕ) → IsExtreme stand rows i place → is_some (get_or rows i None) ≡ true → IsTrue (stand (get_or rows i None) (get_or rows place None))
@@ -62,10 +60,9 @@ extreme-kept stand rows i place h here = record {
   bound = more (λ j. is_some (get_or rows j None) ≡ true → IsTrue (stand (get_or rows place None) (get_or rows j None))) i h.bound here;
 }
 
--- one more row, which is null
-pub passed-over : (rows : List (Option Value)) (i : ℕ) (found : Option ExtremePlaces) → ExtremesBelow rows i found → is_some (get_or rows i None) ≡ false → ExtremesBelow rows (i + 1) found
-passed-over rows i None h e = record { null = more (λ j. get_or rows j None ≡ None) i h.null (is-none (get_or rows i None) e) }
-passed-over rows i (Some found) h e = record {
-  least = extreme-kept at_most rows i found.least h.least (λ s. absurd (false≢true (sym e ∙ s)));
-  greatest = extreme-kept (λ a b. at_most b a) rows i found.greatest h.greatest (λ s. absurd (false≢true (sym e ∙ s)));
+-- so do both extremes at one more row that is null
+pub passed-over : (rows : List (Option Value)) (i least greatest : ℕ) → ExtremesOf rows i least greatest → is_some (get_or rows i None) ≡ false → ExtremesOf rows (i + 1) least greatest
+passed-over rows i least greatest h e = record {
+  least = extreme-kept at_most rows i least h.least (λ s. absurd (false≢true (sym e ∙ s)));
+  greatest = extreme-kept (λ a b. at_most b a) rows i greatest h.greatest (λ s. absurd (false≢true (sym e ∙ s)));
 }

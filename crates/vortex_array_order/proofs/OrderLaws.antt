@@ -1,5 +1,5 @@
 -- The order of rows: rows that have an order are of one kind, and values of one kind have a total order.
-use Rattle.std.proofs.Common.{ℕ, zero, suc, ◌<◌, ◌≡◌, true, false, List, [], ◌∷◌, length, get_or, refl, sym, ap, ◌∙◌, arith, Bool, Option, Some, None}
+use Rattle.std.proofs.Common.{ℕ, zero, suc, ◌<◌, ◌≡◌, true, false, List, [], ◌∷◌, length, get_or, refl, ap, ◌∙◌, arith, Bool, Option, Some, None}
 use Rattle.std.specs.Prelude.{IsTrue}
 use Rattle.std.specs.declared.cmp.Ordering.{Ordering}
 use Rattle.std.specs.declared.cmp.Ordering.TheVariants.{Less, Equal, Greater}
@@ -67,7 +67,7 @@ exact_bool false false h = refl
 exact_bool a b h = absurd (cc h)
 
 -- rows that stand equal are one
-pub is-same : (a b : Option Value) → row_cmp a b ≡ Some Equal → a ≡ b
+is-same : (a b : Option Value) → row_cmp a b ≡ Some Equal → a ≡ b
 is-same None None h = refl
 is-same None (Some b) h = absurd (cc h)
 is-same (Some a) None h = absurd (cc h)
@@ -92,32 +92,28 @@ row-itself (Some (Binary a)) = ap (λ o. Some o) (tied_itself nat_list_cmp_total
 pub at_most-itself : (a : Option Value) → IsTrue (at_most a a)
 at_most-itself a = ap (λ x. is_some_and is_le x) (row-itself a)
 
--- a test of what is answered
-pub answered : (test : Ordering → Bool) (a b : Option Value) (o : Ordering) → row_cmp a b ≡ Some o → test o ≡ true → IsTrue (is_some_and test (row_cmp a b))
-answered test a b o h e = ap (λ x. is_some_and test x) h ∙ e
+-- what a test says of how two rows stand
+pub answered : (test : Ordering → Bool) (a b : Option Value) (o : Ordering) (wanted : Bool) → row_cmp a b ≡ Some o → test o ≡ wanted → is_some_and test (row_cmp a b) ≡ wanted
+answered test a b o wanted h e = ap (is_some_and test) h ∙ e
 
--- what is not above another is at most it
-pub answered-at_most : (a b : Option Value) (o : Ordering) → row_cmp a b ≡ Some o → is_gt o ≡ false → IsTrue (at_most a b)
-answered-at_most a b o h e = answered is_le a b o h (not_gt_le o e)
+lt_le : (o : Ordering) → is_lt o ≡ true → is_le o ≡ true
+lt_le Less e = refl
+lt_le Equal e = absurd (false≢true e)
+lt_le Greater e = absurd (false≢true e)
 
-pub lt-not-gt : (o : Ordering) → is_lt o ≡ true → is_gt o ≡ false
-lt-not-gt Less e = refl
-lt-not-gt Equal e = refl
-lt-not-gt Greater e = absurd (false≢true e)
-
-pub gt-not-lt : (o : Ordering) → is_gt o ≡ true → is_lt o ≡ false
-gt-not-lt Less e = absurd (false≢true e)
-gt-not-lt Equal e = refl
-gt-not-lt Greater e = refl
-
-equal_order : (o : Ordering) → is_eq o ≡ true → o ≡ Equal
-equal_order Less e = absurd (false≢true e)
-equal_order Equal e = refl
-equal_order Greater e = absurd (false≢true e)
+-- what is below another is at most it
+pub below-at_most : (a b : Option Value) (o : Ordering) → row_cmp a b ≡ Some o → is_lt o ≡ true → IsTrue (at_most a b)
+below-at_most a b o h e = answered is_le a b o true h (lt_le o e)
 
 -- rows that are answered equal are one
-pub answered-same : (a b : Option Value) (o : Ordering) → row_cmp a b ≡ Some o → is_eq o ≡ true → b ≡ a
-answered-same a b o h e = sym (is-same a b (h ∙ ap (λ x. Some x) (equal_order o e)))
+pub equal-same : (a b : Option Value) → IsTrue (is_some_and is_eq (row_cmp a b)) → a ≡ b
+equal-same a b h = by_order (row_cmp a b) refl h
+  where
+    by_order : (x : Option Ordering) → row_cmp a b ≡ x → is_some_and is_eq x ≡ true → a ≡ b
+    by_order None e h = absurd (false≢true h)
+    by_order (Some Less) e h = absurd (false≢true h)
+    by_order (Some Equal) e h = is-same a b e
+    by_order (Some Greater) e h = absurd (false≢true h)
 
 -- a list whose rows are all the first one is constant
 pub constant-rows : (rows : List (Option Value)) → 0 < length rows → ((k : ℕ) → k < length rows → get_or rows k None ≡ get_or rows 0 None) → IsConstant rows
@@ -129,9 +125,3 @@ pub rows-constant : (rows : List (Option Value)) → IsConstant rows → (k : �
 rows-constant [] h k l = absurd h
 rows-constant (row ∷ rows) h zero l = refl
 rows-constant (row ∷ rows) h (suc k) l = h k None (omega arith)
-
--- rows that are answered apart are not those of a constant list
-pub not-constant : (rows : List (Option Value)) (i : ℕ) (o : Ordering) → i < length rows → row_cmp (get_or rows 0 None) (get_or rows i None) ≡ Some o → is_eq o ≡ false → IsConstant rows → ⊥
-not-constant rows i o l h e k =
-    let same : row_cmp (get_or rows 0 None) (get_or rows i None) ≡ Some Equal = ap (λ r. row_cmp (get_or rows 0 None) r) (rows-constant rows k i l) ∙ row-itself (get_or rows 0 None) in
-    true≢false (ap is_eq (same_Some Equal o (sym same ∙ h)) ∙ e)

@@ -31,30 +31,34 @@ one_unset (true ∷ bits) h =
     (suc rest.0, omega (arith, rest.1), rest.2)
 one_unset (false ∷ bits) h = (0, omega arith, refl)
 
+-- bits that are not set at the front are none there
+front_unset : (bits : List Bool) (first : ℕ) → take first bits ≡ replicate first false → (i : ℕ) → i < first → get_or bits i false ≡ false
+front_unset bits first before i l = sym (get_or-take first bits i false l) ∙ ap (λ bs. get_or bs i false) before ∙ get_or-replicate first i false false l
+
 -- where as many bits are set as stand from the first that is set on, all of those are
 pub rest-set : (bits : List Bool) (first : ℕ) → first < length bits → take first bits ≡ replicate first false → count_by (λ bit. bit) bits ≡ length bits - first → NullsFirst bits first
 rest-set bits first within before counted =
     let all : count_by (λ bit. bit) (drop first bits) ≡ length (drop first bits) = omega (arith, count_behind bits first before, counted, length-drop first bits) in
     record {
       within = omega (arith, within);
-      null = λ i l. sym (get_or-take first bits i false l) ∙ ap (λ bs. get_or bs i false) before ∙ get_or-replicate first i false false l;
+      null = front_unset bits first before;
       value = λ i l m.
           let back : first + (i - first) ≡ i = omega (arith, l) in
           subst (λ k. get_or bits k false ≡ true) back (sym (get_or-drop first bits (i - first) false) ∙ all_set (drop first bits) (i - first) all (omega (arith, l, m, length-drop first bits)));
     }
 
 -- and else one behind it is not
-pub rest-not-set : (bits : List Bool) (first : ℕ) → first < length bits → get_or bits first false ≡ true → take first bits ≡ replicate first false → (count_by (λ bit. bit) bits ≡ length bits - first → ⊥) → NullBehind bits
+pub rest-not-set : (bits : List Bool) (first : ℕ) → first < length bits → get_or bits first false ≡ true → take first bits ≡ replicate first false → (count_by (λ bit. bit) bits ≡ length bits - first → ⊥) → NullBehind bits first
 rest-not-set bits first within set before counted =
     let found = one_unset (drop first bits) (λ e. counted (omega (arith, e, count_behind bits first before, length-drop first bits))) in
     let unset : get_or bits (first + found.0) false ≡ false = sym (get_or-drop first bits found.0 false) ∙ found.2 in
     record {
-      first = first;
+      null = front_unset bits first before;
+      value = set;
       second = first + found.0;
       behind = apart found.0 unset;
       within = omega (arith, found.1, length-drop first bits);
-      value = set;
-      null = unset;
+      unset = unset;
     }
   where
     apart : (d : ℕ) → get_or bits (first + d) false ≡ false → first < first + d

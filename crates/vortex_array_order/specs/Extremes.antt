@@ -1,5 +1,5 @@
 -- The least and the greatest value of a column.
-use Rattle.std.specs.Prelude.{◌≡◌, ◌<◌, ℕ, Bool, true, IsTrue, List, All, Contains, Option, Some, None, is_some, slice_index_or}
+use Rattle.std.specs.Prelude.{◌≡◌, ◌<◌, ℕ, Bool, true, IsTrue, List, length, All, Contains, Option, Some, None, is_some, slice_index_or}
 use Rattle.vortex_array_types.specs.Order.{compares}
 use Rattle.vortex_array_types.specs.Row.{Column, TypedRow}
 use Rattle.vortex_array_types.specs.Widths.{full_form}
@@ -46,6 +46,12 @@ GreatestOf = IsExtreme (λ a b. at_most b a)
 pub record ExtremesOf (rows : List (Option Value)) (n i j : ℕ) : Type 0 where
   pub least : LeastOf rows n i
   pub greatest : GreatestOf rows n j
+
+-- the row at the place is a value, and none before it is
+pub record IsFirstValue (rows : List (Option Value)) (n : ℕ) : Type 0 where
+  pub within : n < length rows
+  pub none : (j : ℕ) → j < n → slice_index_or rows j None ≡ None
+  pub some : is_some (slice_index_or rows n None) ≡ true
 
 -- none of the first n rows is a value
 pub record NoneOf (rows : List (Option Value)) (n : ℕ) : Type 0 where

@@ -1,5 +1,5 @@
 -- Columns whose rows are equal or in order.
-use Rattle.std.specs.Prelude.{◌≡◌, ◌<◌, ℕ, ◌+◌, Bool, true, false, IsTrue, List, [], ◌∷◌, length, All, Option, None, slice_index_or}
+use Rattle.std.specs.Prelude.{◌≡◌, ◌<◌, ℕ, ◌+◌, Bool, IsTrue, List, [], ◌∷◌, length, All, Option, None, slice_index_or}
 use Rattle.std.specs.Ordering.{is_some_and, is_le, is_lt}
 use Rattle.vortex_array_types.specs.Order.{row_cmp}
 use Rattle.vortex_array_types.specs.declared.scalar.Value.{Value}
@@ -28,8 +28,3 @@ IsSorted = Ascends at_most
 -- each row is below the next one
 abbrev pub IsStrictlySorted : List (Option Value) → Type 0
 IsStrictlySorted = Ascends below
-
--- below, where that is asked for strictly, or at most
-abbrev pub stands : Bool → Option Value → Option Value → Bool
-stands true = below
-stands false = at_most

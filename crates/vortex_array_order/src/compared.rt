@@ -1,11 +1,12 @@
 // Values that are compared by their places, and rows that they are under a validity.
-ghost use Rattle.std.specs.Prelude.{◌≡◌, ◌<◌, IfNone, IfSome, IsTrue, List, None, Some, is_some, length, map, slice_get, slice_index_or, true};
+ghost use Rattle.std.specs.Prelude.{◌≡◌, ◌<◌, IsTrue, List, None, Some, is_some, false, length, map, slice_get, slice_index_or, true};
 ghost use Rattle.vortex_array_types.specs.Order.{row_cmp};
 ghost use Rattle.vortex_array_types.specs.declared.scalar.Value.{Value};
 ghost use Rattle.vortex_array_kinds.specs.Validities.{is_as_long, rows_under};
-ghost use Rattle.vortex_array_order.specs.Nulls.{NullBehind, NullsFirst};
+ghost use Rattle.vortex_array_order.specs.InOrder.{at_most};
+ghost use Rattle.vortex_array_order.specs.Nulls.{StandSo};
 
-use crate::nulls::nulls_first;
+use crate::nulls::{Nulls, nulls_of};
 use std::cmp::Ordering;
 use std::marker::Model;
 use vortex_array_kinds::Validity;
@@ -61,12 +62,11 @@ impl<'a, C: Compared> Rows<'a, C> {
         self.values.count()
     }
 
-    /// How many nulls come first where no row behind them is null, or none where a null stands behind a value.
-    pub fn nulls_first(&self) -> Option<usize>
-        ensures first { IfSome result (λ n. NullsFirst (map is_some self.now) n) }
-        ensures behind { IfNone result (NullBehind (map is_some self.now)) }
+    /// Where the nulls stand.
+    pub fn nulls(&self) -> Nulls
+        ensures { StandSo (map is_some self.now) result }
     {
-        nulls_first(self.validity, self.values.count())
+        nulls_of(self.validity, self.values.count())
     }
 
     /// Whether the row at a place is not null.
@@ -86,5 +86,16 @@ impl<'a, C: Compared> Rows<'a, C> {
         ensures { row_cmp (slice_index_or self.now i None) (slice_index_or self.now j None) ≡ Some result }
     {
         self.values.compare(i, j)
+    }
+
+    /// Whether the value at a place is below the one at another.
+    #[inline(always)]
+    pub fn is_below(&self, i: usize, j: usize) -> bool
+        requires first { is_some (slice_index_or self.now i None) ≡ true }
+        requires second { is_some (slice_index_or self.now j None) ≡ true }
+        ensures below { result ≡ true → IsTrue (at_most (slice_index_or self.now i None) (slice_index_or self.now j None)) }
+        ensures not_below { result ≡ false → IsTrue (at_most (slice_index_or self.now j None) (slice_index_or self.now i None)) }
+    {
+        self.compare(i, j).is_lt()
     }
 }

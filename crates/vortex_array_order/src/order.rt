@@ -1,11 +1,10 @@
 // What one loop over rows that are compared two at a time says of their order.
-ghost use Rattle.std.specs.Prelude.{◌≡◌, ◌≤◌, ◌↔◌, IsTrue, cond, is_some, map, true};
-ghost use Rattle.std.specs.Ordering.{is_le, is_lt};
-ghost use Rattle.vortex_array_order.specs.InOrder.{Ascends, IsConstant, stands};
+ghost use Rattle.std.specs.Prelude.{◌≡◌, ◌↔◌, IsTrue, is_some, length, map};
+ghost use Rattle.vortex_array_order.specs.Asked.{Begins, Follow, Holds, follows};
 ghost use Rattle.vortex_array_order.specs.Nulls.{NullsFirst};
-ghost use Rattle.vortex_array_order.specs.Asked.{Holds};
 
 use crate::compared::{Compared, Rows};
+use crate::nulls::Nulls;
 use std::cmp::Ordering;
 
 /// What is asked of the order of a column's rows.
@@ -23,85 +22,65 @@ pub enum RowOrder {
 pub(crate) fn are_ordered<C: Compared>(rows: &Rows<'_, C>, order: RowOrder) -> bool
     ensures { IsTrue result ↔ Holds order rows.now }
 {
-    match rows.nulls_first() {
-        None => false,
-        Some(nulls) => are_ordered_behind(rows, nulls, order),
+    match rows.nulls() {
+        Nulls::First(nulls) => are_ordered_behind(rows, nulls, order),
+        Nulls::Behind(_) => false,
     }
 }
 
-// Whether the rows, of which only so many at the front are null, stand in the order that is asked for.
+// Whether the rows, of which only so many at the front are null, stand in the order that is asked for. The order is looked
+// at once: each has a loop of its own.
 fn are_ordered_behind<C: Compared>(rows: &Rows<'_, C>, nulls: usize, order: RowOrder) -> bool
     requires { NullsFirst (map is_some rows.now) nulls }
     ensures { IsTrue result ↔ Holds order rows.now }
 {
-    match order {
-        RowOrder::Constant => are_constant(rows, nulls),
-        RowOrder::Sorted => are_ascending(rows, nulls, false),
-        RowOrder::StrictlySorted => {
-            if nulls > 1 {
-                return false;
-            }
-            are_ascending(rows, nulls, true)
-        }
-    }
-}
-
-// Whether there is a row, and each row equals it: all are null, or none is and the values are equal.
-fn are_constant<C: Compared>(rows: &Rows<'_, C>, nulls: usize) -> bool
-    requires { NullsFirst (map is_some rows.now) nulls }
-    ensures { IsTrue result ↔ IsConstant rows.now }
-{
-    if nulls > 0 {
-        return nulls == rows.count();
-    }
-    are_equal_values(rows)
-}
-
-// Whether there is a row, and each row equals it, where no row is null.
-fn are_equal_values<C: Compared>(rows: &Rows<'_, C>) -> bool
-    requires { NullsFirst (map is_some rows.now) 0 }
-    ensures { IsTrue result ↔ IsConstant rows.now }
-{
-    let len = rows.count();
-    if len == 0 {
+    if !may_begin(nulls, rows.count(), order) {
         return false;
     }
-    for i in 1..len {
-        if !rows.compare(0, i).is_eq() {
-            return false;
-        }
+    match order {
+        RowOrder::Constant => values_follow(rows, nulls, RowOrder::Constant),
+        RowOrder::Sorted => values_follow(rows, nulls, RowOrder::Sorted),
+        RowOrder::StrictlySorted => values_follow(rows, nulls, RowOrder::StrictlySorted),
     }
-    true
 }
 
-// Whether each row is at most the next one, or strictly below it: whether the values behind the nulls are so. Compiled into
-// its two callers, so that each has a loop of its own.
+// Whether so many nulls may stand before the values of so many rows.
+fn may_begin(nulls: usize, len: usize, order: RowOrder) -> bool
+    ensures { IsTrue result ↔ Begins order nulls len }
+{
+    match order {
+        RowOrder::Constant => len > 0 && (nulls == 0 || nulls == len),
+        RowOrder::Sorted => true,
+        RowOrder::StrictlySorted => nulls < 2,
+    }
+}
+
+// Whether each value behind the nulls stands to the next one as the order asks.
 #[inline(always)]
-fn are_ascending<C: Compared>(rows: &Rows<'_, C>, nulls: usize, strictly: bool) -> bool
-    requires nulls { NullsFirst (map is_some rows.now) nulls }
-    requires few { strictly ≡ true → nulls ≤ 1 }
-    ensures { IsTrue result ↔ Ascends (stands strictly) rows.now }
+fn values_follow<C: Compared>(rows: &Rows<'_, C>, nulls: usize, order: RowOrder) -> bool
+    requires { NullsFirst (map is_some rows.now) nulls }
+    ensures { IsTrue result ↔ Follow order rows.now nulls (length rows.now) }
 {
     let len = rows.count();
     if nulls == len {
         return true;
     }
     for i in nulls + 1..len {
-        if !may_follow(rows.compare(i - 1, i), strictly) {
+        if !may_follow(rows.compare(i - 1, i), order) {
             return false;
         }
     }
     true
 }
 
-// Whether a row may come before one to which it stands so.
+// Whether a value that stands so to the next one is as the order asks.
 #[inline(always)]
-fn may_follow(ordering: Ordering, strictly: bool) -> bool
-    ensures { result ≡ cond strictly (is_lt ordering) (is_le ordering) }
+fn may_follow(ordering: Ordering, order: RowOrder) -> bool
+    ensures { result ≡ follows order ordering }
 {
-    if strictly {
-        ordering.is_lt()
-    } else {
-        ordering.is_le()
+    match order {
+        RowOrder::Constant => ordering.is_eq(),
+        RowOrder::Sorted => ordering.is_le(),
+        RowOrder::StrictlySorted => ordering.is_lt(),
     }
 }

@@ -1,10 +1,10 @@
 // The places of the least and the greatest value, in one pass.
-ghost use Rattle.std.specs.Prelude.{◌≡◌, ◌<◌, ◌+◌, None, is_some, length, map, slice_index_or, true};
-ghost use Rattle.vortex_array_order.specs.Extremes.{ExtremesOf, GreatestOf, LeastOf};
-ghost use Rattle.vortex_array_order.specs.Nulls.{NullsFirst};
+ghost use Rattle.std.specs.Prelude.{◌≡◌, ◌<◌, ◌≤◌, ◌+◌, ℕ, None, is_some, length, slice_index_or, true};
+ghost use Rattle.vortex_array_order.specs.Extremes.{ExtremesOf, GreatestOf, IsFirstValue, LeastOf};
 ghost use Rattle.vortex_array_order.specs.Asked.{ExtremesBelow};
 
 use crate::compared::{Compared, Rows};
+use crate::nulls::Nulls;
 
 /// The places of the least and of the greatest value of a column.
 #[derive(Clone, Copy, Debug, PartialEq, Eq)]
@@ -19,63 +19,36 @@ pub struct ExtremePlaces {
 pub(crate) fn extreme_places<C: Compared>(rows: &Rows<'_, C>) -> Option<ExtremePlaces>
     ensures { ExtremesBelow rows.now (length rows.now) result }
 {
-    match rows.nulls_first() {
-        None => places_among(rows),
-        Some(nulls) => places_behind(rows, nulls),
+    match rows.nulls() {
+        Nulls::First(nulls) => {
+            if nulls == rows.count() {
+                return None;
+            }
+            Some(places_from(rows, nulls, true))
+        }
+        Nulls::Behind(first) => Some(places_from(rows, first, false)),
     }
 }
 
-// The places where only so many rows at the front are null: the values behind them are compared alone.
-fn places_behind<C: Compared>(rows: &Rows<'_, C>, nulls: usize) -> Option<ExtremePlaces>
-    requires { NullsFirst (map is_some rows.now) nulls }
-    ensures { ExtremesBelow rows.now (length rows.now) result }
+// The places where the first value stands here, and all rows behind it are values or any may be null. Compiled into its
+// callers, so that rows that are all values are not asked for their nulls.
+#[inline(always)]
+fn places_from<C: Compared>(rows: &Rows<'_, C>, first: usize, all_values: bool) -> ExtremePlaces
+    requires first { IsFirstValue rows.now first }
+    requires all_values { all_values ≡ true → (i : ℕ) → first ≤ i → i < length rows.now → is_some (slice_index_or rows.now i None) ≡ true }
+    ensures { ExtremesOf rows.now (length rows.now) result.least result.greatest }
 {
     let len = rows.count();
-    if nulls == len {
-        return None;
-    }
     let mut found = ExtremePlaces {
-        least: nulls,
-        greatest: nulls,
+        least: first,
+        greatest: first,
     };
-    for i in nulls + 1..len {
-        found = with_value(rows, found, i);
-    }
-    Some(found)
-}
-
-// The places where any row may be null.
-fn places_among<C: Compared>(rows: &Rows<'_, C>) -> Option<ExtremePlaces>
-    ensures { ExtremesBelow rows.now (length rows.now) result }
-{
-    let mut found = None;
-    for i in 0..rows.count() {
-        found = with_next(rows, found, i);
+    for i in first + 1..len {
+        if all_values || rows.is_value(i) {
+            found = with_value(rows, found, i);
+        }
     }
     found
-}
-
-// The places with one more row, which counts where it is a value.
-#[inline(always)]
-fn with_next<C: Compared>(
-    rows: &Rows<'_, C>,
-    found: Option<ExtremePlaces>,
-    i: usize,
-) -> Option<ExtremePlaces>
-    requires inside { i < length rows.now }
-    requires found { ExtremesBelow rows.now i found }
-    ensures { ExtremesBelow rows.now (i + 1) result }
-{
-    if !rows.is_value(i) {
-        return found;
-    }
-    match found {
-        None => Some(ExtremePlaces {
-            least: i,
-            greatest: i,
-        }),
-        Some(found) => Some(with_value(rows, found, i)),
-    }
 }
 
 // The places with one more value.
@@ -98,7 +71,7 @@ fn lesser<C: Compared>(rows: &Rows<'_, C>, place: usize, i: usize) -> usize
     requires least { LeastOf rows.now i place }
     ensures { LeastOf rows.now (i + 1) result }
 {
-    if rows.compare(i, place).is_lt() {
+    if rows.is_below(i, place) {
         return i;
     }
     place
@@ -111,7 +84,7 @@ fn greater<C: Compared>(rows: &Rows<'_, C>, place: usize, i: usize) -> usize
     requires greatest { GreatestOf rows.now i place }
     ensures { GreatestOf rows.now (i + 1) result }
 {
-    if rows.compare(i, place).is_gt() {
+    if rows.is_below(place, i) {
         return i;
     }
     place

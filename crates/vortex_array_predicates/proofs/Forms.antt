@@ -1,14 +1,16 @@
--- Patterns that ask for a text alone, or for how one ends.
-use Rattle.std.proofs.Common.{◌≡◌, ◌∙◌, sym, refl, ap, ℕ, ◌+◌, ◌<◌, List, [], ◌∷◌, ◌++◌, Bool, true, false, ◌||◌, ◌&&◌, length, get_or, take, drop, chars, arith, IsUtf8}
+-- Patterns that ask for a text alone, or for how one begins or ends.
+use Rattle.std.proofs.Common.{◌≡◌, ◌∙◌, sym, refl, ap, ℕ, ◌+◌, ◌-◌, ◌<◌, List, [], ◌∷◌, ◌++◌, Bool, true, false, ◌||◌, ◌&&◌, length, get_or, take, drop, chars, arith, IsUtf8, drop-cons, subst, zero, suc, ◌==◌, rules}
 use Rattle.std.specs.Prelude.{nat_eq, not, if◌then◌else◌}
-use Rattle.std.specs.Str.{IsCharBoundary}
-use Rattle.std.specs.Cmp.Lexicographic.{pointwise, same_text, other_text}
-use Rattle.std.proofs.Math.Utf8.{scalars, encodes}
-use Rattle.std.proofs.lemmas.Str.{encodes-chars, chars_from_encodes, encodes-append, IsUtf8-append, IsUtf8-take, IsCharBoundary-start}
-use Rattle.std.proofs.lemmas.List.{take-append-drop, drop_at, length-append, get_or-append_right}
+use Rattle.std.specs.Str.{IsAscii, IsCharBoundary}
+use Rattle.std.specs.Cmp.Lexicographic.{pointwise, bytes_decides, same_text}
+use Rattle.std.proofs.Math.Utf8.{encodes}
+use Rattle.std.proofs.Math.Seq.{drop-length, take-append_seam}
+use Rattle.std.proofs.lemmas.Bool.Decides.{Decides-eqb}
+use Rattle.std.proofs.lemmas.Str.{chars-append, chars-IsAscii, encodes-chars, encodes-append, IsCharBoundary-at_seam, IsCharBoundary-after_ascii, IsCharBoundary-before_ascii, IsUtf8-from_ascii, IsUtf8-take}
+use Rattle.std.proofs.lemmas.List.{take-append-drop, drop_at, length-append, length-take-le}
 use Rattle.vortex_array_types.specs.Matches.{matches, matches_chars, some_suffix}
-use Rattle.vortex_array_predicates.specs.Forms.{plain, plain_end}
-use Rattle.vortex_array_predicates.proofs.Suffixes.{same, suffix-same, suffix-whole}
+use Rattle.vortex_array_predicates.specs.Forms.{plain, plain_end, plain_front}
+use Rattle.vortex_array_predicates.proofs.Suffixes.{later, same, suffix-end, suffix-same, suffix-whole}
 
 -- of a character that stands for itself the last case is taken
 last-case : (a b c x y z w : Bool) → not (a || (b || c)) ≡ true → (if a then x else if b then y else if c then z else w) ≡ w
@@ -31,37 +33,71 @@ plain-matches (p ∷ pattern) (c ∷ text) e =
     let both = both-hold (not (nat_eq p 37 || (nat_eq p 95 || nat_eq p 92))) (plain pattern) e in
     last-case (nat_eq p 37) (nat_eq p 95) (nat_eq p 92) _ _ _ _ both.0 ∙ ap (λ b. nat_eq c p && b) (plain-matches pattern text both.1)
 
--- a text is equal to itself
-equal-text : (xs ys : List ℕ) → xs ≡ ys → pointwise nat_eq xs ys ≡ true
-equal-text xs ys q = told (pointwise nat_eq xs ys) refl
-  where
-    told : (b : Bool) → pointwise nat_eq xs ys ≡ b → pointwise nat_eq xs ys ≡ true
-    told true e = e
-    told false e = absurd (other_text xs ys (sym e) q)
+-- and before a `%` by what begins with it
+front-matches : (front text : List ℕ) → plain front ≡ true → pointwise nat_eq (take (length front) text) front ≡ matches_chars (front ++ 37 ∷ []) text
+front-matches [] text e = sym (suffix-end text)
+front-matches (p ∷ front) [] e =
+    sym (last-case (nat_eq p 37) (nat_eq p 95) (nat_eq p 92) _ _ _ _ (both-hold (not (nat_eq p 37 || (nat_eq p 95 || nat_eq p 92))) (plain front) e).0)
+front-matches (p ∷ front) (c ∷ text) e =
+    let both = both-hold (not (nat_eq p 37 || (nat_eq p 95 || nat_eq p 92))) (plain front) e in
+    ap (λ b. nat_eq c p && b) (front-matches front text both.1) ∙ sym (last-case (nat_eq p 37) (nat_eq p 95) (nat_eq p 92) _ _ _ _ both.0)
 
--- texts have the same bytes where they have the same characters
-pub same-chars : (xs ys : List ℕ) → IsUtf8 xs → IsUtf8 ys → chars xs ≡ chars ys → xs ≡ ys
-same-chars xs ys u v e = sym (encodes-chars xs u) ∙ ap encodes e ∙ encodes-chars ys v
+-- texts are compared by their bytes as by their characters
+same-text : (xs ys : List ℕ) → IsUtf8 xs → IsUtf8 ys → pointwise nat_eq xs ys ≡ pointwise nat_eq (chars xs) (chars ys)
+same-text xs ys u v =
+    same (pointwise nat_eq xs ys) (pointwise nat_eq (chars xs) (chars ys)) (λ k. (bytes_decides (chars xs) (chars ys)).1 (ap chars ((bytes_decides xs ys).0 k)))
+    (λ k. (bytes_decides xs ys).1 (sym (encodes-chars xs u) ∙ ap encodes ((bytes_decides (chars xs) (chars ys)).0 k) ∙ encodes-chars ys v))
 
 pub whole-matches : (pattern text : List ℕ) → IsUtf8 pattern → IsUtf8 text → plain (chars pattern) ≡ true → pointwise nat_eq text pattern ≡ matches pattern text
-whole-matches pattern text u v e =
-    same (pointwise nat_eq text pattern) (pointwise nat_eq (chars text) (chars pattern)) (λ k. equal-text (chars text) (chars pattern) (ap chars (same_text text pattern (sym k))))
-    (λ k. equal-text text pattern (same-chars text pattern v u (same_text (chars text) (chars pattern) (sym k))))
-    ∙ sym (plain-matches (chars pattern) (chars text) e)
+whole-matches pattern text u v e = same-text text pattern v u ∙ sym (plain-matches (chars pattern) (chars text) e)
 
-or-second : (a b : Bool) → b ≡ true → (a || b) ≡ true
-or-second true b e = refl
-or-second false b e = e
+-- a text begins with another by its bytes as by its characters
+same-front : (front text : List ℕ) → IsUtf8 front → IsUtf8 text → pointwise nat_eq (take (length front) text) front ≡ pointwise nat_eq (take (length (chars front)) (chars text)) (chars front)
+same-front front text u v =
+    let n = length front in
+    let m = length (chars front) in
+    same (pointwise nat_eq (take n text) front) (pointwise nat_eq (take m (chars text)) (chars front))
+    (λ k.
+    let spelled : text ≡ front ++ drop n text = sym (take-append-drop n text) ∙ ap (λ z. z ++ drop n text) ((bytes_decides (take n text) front).0 k) in
+    (bytes_decides (take m (chars text)) (chars front)).1 (ap (take m) (ap chars spelled ∙ chars-append front (drop n text) u) ∙ take-append_seam (chars front) (chars (drop n text))))
+    (λ k.
+    let spelled : chars text ≡ chars front ++ drop m (chars text) = sym (take-append-drop m (chars text)) ∙ ap (λ z. z ++ drop m (chars text)) ((bytes_decides (take m (chars text)) (chars front)).0 k) in
+    let written : text ≡ front ++ encodes (drop m (chars text)) = sym (encodes-chars text v) ∙ ap encodes spelled ∙ encodes-append (chars front) (drop m (chars text)) ∙ ap (λ z. z ++ encodes (drop m (chars text))) (encodes-chars front u) in
+    (bytes_decides (take n text) front).1 (ap (take n) written ∙ take-append_seam front (encodes (drop m (chars text)))))
 
-chars-append : (xs ys : List ℕ) → IsUtf8 xs → IsUtf8 ys → chars (xs ++ ys) ≡ chars xs ++ chars ys
-chars-append xs ys u v =
-    let spelled : encodes (chars xs ++ chars ys) ≡ xs ++ ys = encodes-append (chars xs) (chars ys) ∙ ap (λ z. z ++ encodes (chars ys)) (encodes-chars xs u) ∙ ap (λ z. xs ++ z) (encodes-chars ys v) in
-    sym (chars_from_encodes (chars xs ++ chars ys) (xs ++ ys) (IsUtf8-append xs ys u v) spelled)
+-- a pattern that ends with a `%` in its bytes
+seam : (pattern : List ℕ) → get_or pattern (length pattern - 1) 0 ≡ 37 → pattern ≡ take (length pattern - 1) pattern ++ 37 ∷ []
+seam [] e = absurd (omega (arith, e))
+seam (c ∷ rest) e =
+    let pattern = c ∷ rest in
+    let n = length pattern - 1 in
+    let n' : suc n ≡ length pattern = omega arith in
+    sym (take-append-drop n pattern) ∙ ap (λ z. take n pattern ++ z) (drop-cons pattern n 0 (omega (arith, n')) ∙ ap (λ d. d ∷ drop (suc n) pattern) e ∙ ap (λ z. 37 ∷ z) (ap (λ k. drop k pattern) n' ∙ drop-length pattern))
+
+ascii : IsAscii (37 ∷ [])
+ascii = search rules
+
+inside : (pattern : List ℕ) (i : ℕ) → get_or pattern i 0 ≡ 37 → i < length pattern
+inside [] i e = absurd (omega (arith, e))
+inside (c ∷ pattern) zero e = omega arith
+inside (c ∷ pattern) (suc i) e = omega (arith, inside pattern i e)
+
+-- a pattern that is plain before a `%` at its end
+pub front-run : (pattern text : List ℕ) → IsUtf8 pattern → IsUtf8 text → plain_front pattern ≡ true
+    → pointwise nat_eq (take (length (take (length pattern - 1) pattern)) text) (take (length pattern - 1) pattern) ≡ matches pattern text
+front-run pattern text u v h =
+    let n = length pattern - 1 in
+    let front = take n pattern in
+    let both = both-hold (get_or pattern n 0 == 37) (plain (chars front)) h in
+    let run : get_or pattern n 0 ≡ 37 = (Decides-eqb (get_or pattern n 0) 37).0 both.0 in
+    let w : IsUtf8 front = IsUtf8-take pattern n u (IsCharBoundary-before_ascii pattern n (inside pattern n run) (omega (arith, run))) in
+    let spelled : chars pattern ≡ chars front ++ 37 ∷ [] = ap chars (seam pattern run) ∙ chars-append front (37 ∷ []) w ∙ ap (λ z. chars front ++ z) (chars-IsAscii (37 ∷ []) ascii) in
+    same-front front text w v ∙ front-matches (chars front) (chars text) both.1 ∙ ap (λ z. matches_chars z (chars text)) (sym spelled)
 
 -- what ends a text is one of its suffixes
 suffix-append : (f : List ℕ → Bool) (xs ys : List ℕ) → f ys ≡ true → some_suffix f (xs ++ ys) ≡ true
 suffix-append f [] ys e = suffix-whole f ys e
-suffix-append f (x ∷ xs) ys e = or-second (f (x ∷ (xs ++ ys))) (some_suffix f (xs ++ ys)) (suffix-append f xs ys e)
+suffix-append f (x ∷ xs) ys e = later (f (x ∷ (xs ++ ys))) (some_suffix f (xs ++ ys)) (suffix-append f xs ys e)
 
 -- a suffix that is a text ends it
 suffix-split : (end text : List ℕ) → some_suffix (λ t. pointwise nat_eq t end) text ≡ true → (front : List ℕ) × (text ≡ front ++ end)
@@ -78,52 +114,46 @@ suffix-split end (c ∷ text) e = told (pointwise nat_eq (c ∷ text) end) refl 
 abbrev pub ends-with : List ℕ → List ℕ → Bool
 ends-with text end = some_suffix (λ t. pointwise nat_eq t (chars end)) (chars text)
 
--- the bytes behind a place where a text may be cut
-ends-yes : (text end : List ℕ) (start : ℕ) → IsUtf8 text → IsUtf8 end → IsCharBoundary text start → drop start text ≡ end → ends-with text end ≡ true
-ends-yes text end start u v b e =
-    let front = take start text in
-    let whole : chars text ≡ chars front ++ chars end = ap chars (sym (take-append-drop start text) ∙ ap (λ z. front ++ z) e) ∙ chars-append front end (IsUtf8-take text start u b) v in
-    rw whole (suffix-append (λ t. pointwise nat_eq t (chars end)) (chars front) (chars end) (equal-text (chars end) (chars end) refl))
-
 ends-front : (text end : List ℕ) → IsUtf8 text → IsUtf8 end → ends-with text end ≡ true → (front : List ℕ) × (text ≡ front ++ end)
 ends-front text end u v e =
     let s = suffix-split (chars end) (chars text) e in
     (encodes s.0, sym (encodes-chars text u) ∙ ap encodes s.1 ∙ encodes-append s.0 (chars end) ∙ ap (λ z. encodes s.0 ++ z) (encodes-chars end v))
 
--- where nothing stands before it, it does not end the text
-ends-not : (text end : List ℕ) → IsUtf8 text → IsUtf8 end → ((front : List ℕ) → text ≡ front ++ end → ⊥) → false ≡ ends-with text end
-ends-not text end u v h = told (ends-with text end) refl
-  where
-    told : (b : Bool) → ends-with text end ≡ b → false ≡ ends-with text end
-    told true e = let s = ends-front text end u v e in absurd (h s.0 s.1)
-    told false e = sym e
-
--- a longer one does not
+-- a longer text does not end one
 pub ends-longer : (text end : List ℕ) → IsUtf8 text → IsUtf8 end → length text < length end → false ≡ ends-with text end
-ends-longer text end u v l = ends-not text end u v (λ front e. absurd (omega (arith, l, ap length e, length-append front end)))
+ends-longer text end u v l =
+    same false (ends-with text end) (λ k. cc) (λ k. let s = ends-front text end u v k in absurd (omega (arith, l, ap length s.1, length-append s.0 end)))
 
--- the place where it begins is between two characters
-ends-boundary : (text front end : List ℕ) (start : ℕ) → IsUtf8 end → text ≡ front ++ end → start + length end ≡ length text → IsCharBoundary text start
-ends-boundary text front end start v e l =
-    let long : length front ≡ start = omega (arith, l, ap length e, length-append front end) in
-    let lead = IsCharBoundary-start end v in
-    let here : get_or text start 0 ≡ get_or end 0 0 = ap (λ z. get_or z start 0) e ∙ get_or-append_right front end start start 0 long (omega arith) ∙ ap (λ n. get_or end n 0) (omega arith) in
-    (omega (arith, l), λ below high. rw here (lead.1 (omega (arith, l, below)) (rw here at high)))
+-- the bytes behind the place where it would begin tell
+pub ends-same : (text end : List ℕ) (start : ℕ) → IsUtf8 text → IsUtf8 end → start + length end ≡ length text → pointwise nat_eq (drop start text) end ≡ ends-with text end
+ends-same text end start u v l =
+    let front = take start text in
+    let long : length front ≡ start = length-take-le start text (omega (arith, l)) in
+    same (pointwise nat_eq (drop start text) end) (ends-with text end)
+    (λ k.
+    let spelled : text ≡ front ++ end = sym (take-append-drop start text) ∙ ap (λ z. front ++ z) ((bytes_decides (drop start text) end).0 k) in
+    let cut : IsCharBoundary text start = subst (IsCharBoundary text) long (IsCharBoundary-at_seam text front end spelled v) in
+    let whole : chars text ≡ chars front ++ chars end = ap chars spelled ∙ chars-append front end (IsUtf8-take text start u cut) in
+    rw whole (suffix-append (λ t. pointwise nat_eq t (chars end)) (chars front) (chars end) ((bytes_decides (chars end) (chars end)).1 refl)))
+    (λ k. let s = ends-front text end u v k in (bytes_decides (drop start text) end).1 (ap (drop start) s.1 ∙ drop_at s.0 end start (omega (arith, l, ap length s.1, length-append s.0 end))))
 
-pub ends-inside : (text end : List ℕ) (start : ℕ) → IsUtf8 text → IsUtf8 end → start + length end ≡ length text → (IsCharBoundary text start → ⊥) → false ≡ ends-with text end
-ends-inside text end start u v l h = ends-not text end u v (λ front e. h (ends-boundary text front end start v e l))
+first-run : (pattern : List ℕ) → get_or pattern 0 0 ≡ 37 → pattern ≡ (37 ∷ []) ++ drop 1 pattern
+first-run [] e = absurd (omega (arith, e))
+first-run (c ∷ pattern) e = ap (λ d. d ∷ pattern) e
 
-pub ends-same : (text end : List ℕ) (start : ℕ) → IsUtf8 text → IsUtf8 end → start + length end ≡ length text → IsCharBoundary text start → pointwise nat_eq (drop start text) end ≡ ends-with text end
-ends-same text end start u v l b =
-    same (pointwise nat_eq (drop start text) end) (ends-with text end) (λ k. ends-yes text end start u v b (same_text (drop start text) end (sym k)))
-    (λ k. let s = ends-front text end u v k in equal-text (drop start text) end (ap (λ z. drop start z) s.1 ∙ drop_at s.0 end start (omega (arith, l, ap length s.1, length-append s.0 end))))
+-- behind a first `%` a pattern may be cut
+pub behind-run : (pattern : List ℕ) → IsUtf8 pattern → (get_or pattern 0 0 == 37) ≡ true → IsCharBoundary pattern 1
+behind-run pattern u h = let run : get_or pattern 0 0 ≡ 37 = (Decides-eqb (get_or pattern 0 0) 37).0 h in IsCharBoundary-after_ascii pattern 0 u (inside pattern 0 run) (omega (arith, run))
 
--- of a run the first case is taken
-first-case : (a x y : Bool) → a ≡ true → (if a then x else y) ≡ x
-first-case true x y e = refl
-first-case false x y e = cc
+-- a pattern that is plain behind a first `%`
+pub run-end : (pattern text : List ℕ) → plain_end pattern ≡ true → ends-with text (drop 1 pattern) ≡ matches pattern text
+run-end pattern text h =
+    let end = chars (drop 1 pattern) in
+    let both = both-hold (get_or pattern 0 0 == 37) (plain end) h in
+    let spelled : chars pattern ≡ 37 ∷ end =
+    ap chars (first-run pattern ((Decides-eqb (get_or pattern 0 0) 37).0 both.0)) ∙ chars-append (37 ∷ []) (drop 1 pattern) (IsUtf8-from_ascii (37 ∷ []) ascii) ∙ ap (λ z. z ++ end) (chars-IsAscii (37 ∷ []) ascii) in
+    suffix-same (λ t. pointwise nat_eq t end) (matches_chars end) (λ t. sym (plain-matches end t both.1)) (chars text) ∙ ap (λ z. matches_chars z (chars text)) (sym spelled)
 
-pub end-matches : (pattern end text : List ℕ) (c : ℕ) → pattern ≡ c ∷ end → plain_end pattern ≡ true → some_suffix (λ t. pointwise nat_eq t end) text ≡ matches_chars pattern text
-end-matches pattern end text c e h =
-    let both = both-hold (nat_eq c 37) (plain end) (rw e at h) in
-    rw e (suffix-same (λ t. pointwise nat_eq t end) (matches_chars end) (λ t. sym (plain-matches end t both.1)) text ∙ sym (first-case (nat_eq c 37) (some_suffix (matches_chars end) text) _ both.0))
+-- what a form tells of its pattern's first byte
+pub told-run : (pattern : List ℕ) → plain_end pattern ≡ true → (get_or pattern 0 0 == 37) ≡ true
+told-run pattern h = (both-hold (get_or pattern 0 0 == 37) (plain (chars (drop 1 pattern))) h).0

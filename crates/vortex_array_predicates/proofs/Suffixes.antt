@@ -13,12 +13,12 @@ either true b x f g e = f refl
 either false b x f g e = g e
 
 -- the second is enough for either
-later : (a b : Bool) → b ≡ true → (a || b) ≡ true
+pub later : (a b : Bool) → b ≡ true → (a || b) ≡ true
 later true b e = refl
 later false b e = e
 
 -- of both the second holds
-second : (a b : Bool) → (a && b) ≡ true → b ≡ true
+pub second : (a b : Bool) → (a && b) ≡ true → b ≡ true
 second true b e = e
 second false b e = cc
 

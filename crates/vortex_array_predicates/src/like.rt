@@ -19,7 +19,7 @@ use vortex_array_types::Text;
 pub struct LikePattern {
     text: Text,
     form: PatternForm,
-    ghost told: { IsTrue (form_tells form (chars text)) },
+    ghost told: { IsTrue (form_tells form text) },
 }
 
 impl Drop for LikePattern {

@@ -1,6 +1,6 @@
 // What a pattern asks as a whole. The commonest patterns are decided by the lengths and a comparison of bytes: those whose
-// characters all stand for themselves, and those of one `%` and such characters behind it.
-ghost use Rattle.std.specs.Prelude.{◌≡◌, IsTrue, chars, nat_eq};
+// characters all stand for themselves, and those of one `%` before or behind such characters.
+ghost use Rattle.std.specs.Prelude.{◌≡◌, ◌==◌, IsTrue, chars, length, nat_eq, slice_index, take};
 ghost use Rattle.std.specs.Cmp.Lexicographic.{pointwise};
 ghost use Rattle.vortex_array_types.specs.Matches.{matches as is_match, some_suffix};
 ghost use Rattle.vortex_array_predicates.specs.Forms.{form_tells, plain};
@@ -15,24 +15,18 @@ pub(crate) enum PatternForm {
     Plain,
     // A `%`, and behind it each character stands for itself, so the text ends with these.
     PlainEnd,
+    // Each character stands for itself but the last, which is a `%`, so the text begins with these.
+    PlainFront,
     // Any other pattern.
     Other,
 }
 
 /// A pattern that is lent, looked at once so that many texts can be matched with it. Contracts see its text.
+#[derive(Drop)]
 pub struct LentPattern<'a> {
     pattern: &'a str,
     form: PatternForm,
-    ghost told: { IsTrue (form_tells form (chars pattern.now)) },
-}
-
-impl<'a> Drop for LentPattern<'a> {
-    fn drop(self) {
-        let LentPattern {
-            pattern: _pattern,
-            form: _form,
-        } = self;
-    }
+    ghost told: { IsTrue (form_tells form pattern.now) },
 }
 
 impl<'a> Model for LentPattern<'a> {
@@ -77,22 +71,26 @@ fn is_plain(pattern: &str) -> bool
     true
 }
 
+// Whether a `%` stands at a place of a pattern's bytes.
+fn has_run(pattern: &str, i: usize) -> bool
+    ensures { result ≡ (slice_index pattern.now i == 37) }
+{
+    i < pattern.len() && pattern.as_bytes()[i] == b'%'
+}
+
 // The form of a pattern.
 pub(crate) fn form_of(pattern: &str) -> PatternForm
-    ensures { IsTrue (form_tells result (chars pattern.now)) }
+    ensures { IsTrue (form_tells result pattern.now) }
 {
+    let last = pattern.len().saturating_sub(1);
     if is_plain(pattern) {
-        return PatternForm::Plain;
-    }
-    match split_first(pattern) {
-        Some((first, rest)) => {
-            if first == '%' && is_plain(rest) {
-                PatternForm::PlainEnd
-            } else {
-                PatternForm::Other
-            }
-        }
-        None => PatternForm::Other,
+        PatternForm::Plain
+    } else if has_run(pattern, 0) && is_plain(&pattern[1..]) {
+        PatternForm::PlainEnd
+    } else if has_run(pattern, last) && is_plain(&pattern[..last]) {
+        PatternForm::PlainFront
+    } else {
+        PatternForm::Other
     }
 }
 
@@ -104,25 +102,30 @@ fn ends_with(text: &str, end: &str) -> bool
     if text.len() < end.len() {
         return false;
     }
-    let start = text.len() - end.len();
-    if !text.is_char_boundary(start) {
+    &text.as_bytes()[text.len() - end.len()..] == end.as_bytes()
+}
+
+// Whether a text begins with another.
+#[inline]
+fn starts_with(text: &str, front: &str) -> bool
+    ensures { result ≡ pointwise nat_eq (take (length front.now) text.now) front.now }
+{
+    if text.len() < front.len() {
         return false;
     }
-    &text[start..] == end
+    &text.as_bytes()[..front.len()] == front.as_bytes()
 }
 
 // Whether the whole text matches a pattern of this form.
 #[inline]
 pub(crate) fn matches_form(form: PatternForm, pattern: &str, text: &str) -> bool
-    requires { IsTrue (form_tells form (chars pattern.now)) }
+    requires { IsTrue (form_tells form pattern.now) }
     ensures { result ≡ is_match pattern.now text.now }
 {
     match form {
         PatternForm::Plain => text == pattern,
-        PatternForm::PlainEnd => match split_first(pattern) {
-            Some((_, end)) => ends_with(text, end),
-            None => text_matches(text, pattern),
-        },
+        PatternForm::PlainEnd => ends_with(text, &pattern[1..]),
+        PatternForm::PlainFront => starts_with(text, &pattern[..pattern.len() - 1]),
         PatternForm::Other => text_matches(text, pattern),
     }
 }

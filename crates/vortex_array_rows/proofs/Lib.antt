@@ -2,9 +2,7 @@ pub mod Kept
 pub mod Slices
 pub mod Taken
 pub mod KeptWords
-pub mod Pieces
 pub mod FirstSet
 pub mod PackedBits
 pub mod SlicedBits
 pub mod KeptRuns
-pub mod FrontOrder

@@ -2,9 +2,8 @@ use Rattle.std.proofs.Common.{ℕ, zero, suc, ◌+◌, ◌<◌, ◌≡◌, Bool,
 use Rattle.std.specs.List.{All}
 use Rattle.std.specs.Simd.Lanes.{zip2}
 use Rattle.std.proofs.lemmas.List.{take_more, get_or_default, length-map, map-append}
-use Rattle.std.proofs.lemmas.Slice.Zip.{all_zipped_more}
 use Rattle.std.proofs.lemmas.Simd.{length-zip2, get_or-zip2}
-use Rattle.vortex_array_rows.specs.Taken.{TakenAt, taken_or}
+use Rattle.vortex_array_rows.specs.Taken.{taken_or}
 
 -- an item of a map, past the end too
 get_or-map_any : {X Y : Type 0} (f : X → Y) (xs : List X) (i : ℕ) (d : X) → get_or (map f xs) i (f d) ≡ f (get_or xs i d)
@@ -24,29 +23,6 @@ place_below f n places k p within inside is =
     let long : k < length (map f places) = rw length-map inside in
     rw (number_at f places k p inside is) (within k 0 long)
 
--- one more place
-pub taken_more : {X : Type 0} (items : List X) (places : List ℕ) (n : ℕ) (taken : List X) (x : X) → n < length places → TakenAt items (take n places) taken → x ≡ get_or items (get_or places n 0) x → TakenAt items (take (n + 1) places) (taken ++ x ∷ [])
-taken_more items places n taken x within so_far here =
-    rw (take_more places n 0 within) (all_zipped_more (λ i y. y ≡ get_or items i y) (take n places) taken (get_or places n 0) x so_far here)
-
--- an item of two lists of one length, joined item by item, past the end too
-get_or-zip2_any : {X Y Z : Type 0} (f : X → Y → Z) (xs : List X) (ys : List Y) (i : ℕ) (d : X) (e : Y) → length xs ≡ length ys → get_or (zip2 f xs ys) i (f d e) ≡ f (get_or xs i d) (get_or ys i e)
-get_or-zip2_any f [] [] i d e same = refl
-get_or-zip2_any f [] (y ∷ ys) i d e same = absurd (omega arith)
-get_or-zip2_any f (x ∷ xs) [] i d e same = absurd (omega arith)
-get_or-zip2_any f (x ∷ xs) (y ∷ ys) zero d e same = refl
-get_or-zip2_any f (x ∷ xs) (y ∷ ys) (suc i) d e same = get_or-zip2_any f xs ys i d e (omega arith)
-
--- what is taken, as a map over the places
-pub taken_is_map : {X : Type 0} (d : X) (items : List X) (places : List ℕ) (taken : List X) → All (λ i. i < length items) places → TakenAt items places taken → taken ≡ map (λ i. get_or items i d) places
-taken_is_map d items [] [] within h = refl
-taken_is_map d items [] (x ∷ taken) within h = absurd h
-taken_is_map d items (i ∷ places) [] within h = absurd h
-taken_is_map d items (i ∷ places) (x ∷ taken) within h =
-    let below : i < length items = within 0 0 (omega arith) in
-    ap (λ y. y ∷ taken) (h.0 ∙ get_or_default items i x d below)
-    ∙ ap (λ ys. get_or items i d ∷ ys) (taken_is_map d items places taken (λ k e m. within (suc k) e (omega arith)) h.1)
-
 -- one more place, or the default
 pub taken_or_more : {X : Type 0} (d : X) (items : List X) (places : List ℕ) (set : List Bool) (n : ℕ) (x : X) → n < length places → length places ≡ length set → x ≡ cond (get_or set n false) (get_or items (get_or places n 0) d) d → taken_or d items (take (n + 1) places) (take (n + 1) set) ≡ taken_or d items (take n places) (take n set) ++ x ∷ []
 taken_or_more d items [] set n x within same is = absurd (omega arith)
@@ -65,12 +41,6 @@ pub taken_or_at : {X : Type 0} (d : X) (items : List X) (places : List ℕ) (set
 taken_or_at d items places set i x same within is =
     let inside : i < length set = omega (arith, same, within) in
     is ∙ sym (get_or-zip2 (λ place bit. cond bit (get_or items place d) d) places set i 0 false x within inside)
-
--- one more place, by its number
-pub taken_next : {X P : Type 0} (f : P → ℕ) (items : List X) (places : List P) (n : ℕ) (taken : List X) (p : P) (number : ℕ) (x : X) → n < length places → p ≡ get_or places n p → number ≡ f p → TakenAt items (take n (map f places)) taken → x ≡ get_or items number x → TakenAt items (take (n + 1) (map f places)) (taken ++ x ∷ [])
-taken_next f items places n taken p number x inside is means so_far here =
-    let long : n < length (map f places) = rw length-map inside in
-    taken_more items (map f places) n taken x long so_far (here ∙ ap (λ i. get_or items i x) (means ∙ number_at f places n p inside is))
 
 -- one more place, by its number, or the default
 pub taken_or_next : {X P : Type 0} (f : P → ℕ) (d : X) (items : List X) (places : List P) (set : List Bool) (n : ℕ) (p : P) (x : X) → n < length places → length places ≡ length set → p ≡ get_or places n p → x ≡ cond (get_or set n false) (get_or items (f p) d) d → taken_or d items (take (n + 1) (map f places)) (take (n + 1) set) ≡ taken_or d items (take n (map f places)) (take n set) ++ x ∷ []

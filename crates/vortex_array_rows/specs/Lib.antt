@@ -1,6 +1,3 @@
 pub mod Kept
 pub mod Taken
-pub mod Rows
-pub mod Pieces
 pub mod Packs
-pub mod Fronts

@@ -1,11 +1,6 @@
 -- Which rows of a list a list of places takes.
 use Rattle.std.specs.Prelude.{ℕ, ◌<◌, ◌≡◌, Bool, true, false, cond, List, EachIndex, slice_index, slice_index_or}
-use Rattle.std.specs.List.{AllZip}
 use Rattle.std.specs.Simd.Lanes.{zip2}
-
--- item i taken is the item at place i of the places
-abbrev pub TakenAt : {X : Type 0} → List X → List ℕ → List X → Type 0
-TakenAt items places taken = AllZip (λ place x. x ≡ slice_index_or items place x) places taken
 
 -- each place whose bit is set is below n
 abbrev pub SetPlacesBelow : ℕ → List ℕ → List Bool → Type 0

@@ -1,8 +1,7 @@
 // The bits that a mask keeps, packed by words of 64 bits.
-ghost use Rattle.std.specs.Prelude.{◌≡◌, ◌<◌, ◌≤◌, ◌^◌, ℕ, Bool, List, IfOk, length};
-ghost use Rattle.std.specs.Simd.Lanes.{mask_l};
+ghost use Rattle.std.specs.Prelude.{◌≡◌, ◌<◌, ◌≤◌, ◌^◌, IfOk, length};
 ghost use Rattle.vortex_buffer.specs.Mask.{mask_bits};
-ghost use Rattle.vortex_array_rows.specs.Kept.{kept_by, kept_in};
+ghost use Rattle.vortex_array_rows.specs.Kept.{kept_by};
 ghost use Rattle.vortex_array_rows.specs.Packs.{KeepsOfWord, PacksMore};
 
 use std::alloc::Global;

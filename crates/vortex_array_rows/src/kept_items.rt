@@ -1,6 +1,5 @@
 // The values that a mask keeps, found by words of 64 bits.
-ghost use Rattle.std.specs.Prelude.{◌≡◌, ◌<◌, ◌≤◌, ◌*◌, ◌^◌, ◌++◌, IfOk, OnOk, length, take, drop};
-ghost use Rattle.vortex_buffer.specs.Bits.{words_for, word_of};
+ghost use Rattle.std.specs.Prelude.{◌≡◌, ◌<◌, ◌≤◌, ◌*◌, ◌^◌, ◌++◌, IfOk, OnOk, length, take};
 ghost use Rattle.vortex_buffer.specs.Mask.{mask_bits};
 ghost use Rattle.vortex_array_rows.specs.Kept.{kept_by, kept_in};
 

@@ -1,13 +1,26 @@
 // The lists of bytes that a mask keeps, found by words of 64 bits.
 ghost use Rattle.std.specs.Prelude.{◌≡◌, ◌<◌, ◌≤◌, ◌-◌, ◌^◌, ◌++◌, IfOk, OnOk, drop, length};
+ghost use Rattle.vortex_buffer.specs.Mask.{mask_bits};
 ghost use Rattle.vortex_array_rows.specs.Kept.{kept_by, kept_in};
 
-use crate::byte_lists::ByteLists;
 use std::alloc::Global;
-use vortex_buffer::{AllocError, BitBuffer};
+use vortex_array_lists::ByteLists;
+use vortex_buffer::{AllocError, BitBuffer, Mask};
+
+/// The lists whose bit is set in the mask, in their order.
+pub fn filter_lists(alloc: Global, lists: &ByteLists, mask: &Mask) -> Result<ByteLists, AllocError>
+    requires same_length { length (mask_bits mask.now) ≡ length lists.now }
+    ensures ok { IfOk result (λ kept. kept ≡ kept_by (mask_bits mask.now) lists.now) }
+{
+    match mask {
+        Mask::AllTrue(_) => lists.try_clone(alloc),
+        Mask::AllFalse(_) => Ok(ByteLists::new(alloc)),
+        Mask::Values(bits) => filter_by_words(alloc, lists, bits),
+    }
+}
 
 // The lists whose bit is set, by groups of 64.
-pub(crate) fn filter_lists(
+fn filter_by_words(
     alloc: Global,
     lists: &ByteLists,
     bits: &BitBuffer,
@@ -15,7 +28,7 @@ pub(crate) fn filter_lists(
     requires same_length { length bits.now ≡ length lists.now }
     ensures ok { IfOk result (λ kept. kept ≡ kept_by bits.now lists.now) }
 {
-    let mut kept = ByteLists::with_ends(alloc, bits.count())?;
+    let mut kept = ByteLists::with_capacity(alloc, bits.count())?;
     for k in 0..lists.len().div_ceil(64) {
         push_runs(&mut kept, lists, 64 * k, bits.word(k))?;
     }

@@ -15,12 +15,9 @@ use Rattle.vortex_array_kinds.specs.Validities.{row_of, rows_under, is_as_long, 
 use Rattle.vortex_array_kinds.specs.declared.validity.Validity.{Validity}
 use Rattle.vortex_array_kinds.specs.declared.validity.Validity.TheVariants.{NonNullable, AllValid, AllInvalid, Bits}
 use Rattle.vortex_array_kinds.proofs.RowLemmas.{column_with, long_bits}
+use Rattle.vortex_array_kinds.proofs.TruthColumns.{same_column}
 use Rattle.vortex_array_select.specs.Selected.{sliced, filtered}
 use Rattle.vortex_array_select.specs.SelectedParts.{map_bits}
-
--- equal types and equal rows are equal columns
-pub same-column : (t u : DType) (rs ss : List (Option Value)) → t ≡ u → rs ≡ ss → column_with t rs ≡ column_with u ss
-same-column t u rs ss e f = ap (λ w. column_with w rs) e ∙ ap (column_with u) f
 
 part_nulls : (part : List Bool → List Bool) (v : Validity) → nullability_of (map_bits part v) ≡ nullability_of v
 part_nulls part NonNullable = refl
@@ -43,7 +40,7 @@ part_rows part is (Bits bits) xs = sym (is.zips Value Bool (Option Value) row_of
 part_column : {X : Type 0} (type_of : X → Nullability → DType) (items : X → List Value) (a : PlainParts X) (values : X) (part : (X : Type 0) → List X → List X) → IsPart part
     → ((n : Nullability) → type_of values n ≡ type_of a.values n) → items values ≡ part Value (items a.values)
     → plain_column type_of items (record { values = values; validity = map_bits (part Bool) a.validity }) ≡ column_with (type_of a.values (nullability_of a.validity)) (part (Option Value) (rows_under a.validity (items a.values)))
-part_column type_of items a values part is same e = same-column _ _ _ _
+part_column type_of items a values part is same e = same_column _ _ _ _
     (same (nullability_of (map_bits (part Bool) a.validity)) ∙ ap (type_of a.values) (part_nulls (part Bool) a.validity))
     (ap (rows_under (map_bits (part Bool) a.validity)) e ∙ part_rows part is a.validity (items a.values))
 

@@ -12,17 +12,16 @@ use Rattle.vortex_array_types.specs.declared.types.Nullability.{Nullability}
 use Rattle.vortex_array_types.specs.declared.types.Nullability.TheVariants as nulls
 use Rattle.vortex_array_types.specs.declared.scalar.Value.{Value}
 use Rattle.vortex_array_types.specs.declared.scalar.Value.TheVariants as value
-use Rattle.vortex_array_rows.specs.Taken.{TakenAt}
-use Rattle.vortex_array_rows.proofs.Taken.{length-taken_or, taken_is_map}
+use Rattle.vortex_array_rows.proofs.Taken.{length-taken_or}
 use Rattle.vortex_array_kinds.specs.Kinds.{plain_column}
 use Rattle.vortex_array_kinds.specs.Parts.{PlainParts}
 use Rattle.vortex_array_kinds.specs.Validities.{rows_under, is_as_long, valid_at, nullability_of, nullable_validity}
 use Rattle.vortex_array_kinds.specs.declared.validity.Validity.{Validity}
 use Rattle.vortex_array_kinds.specs.declared.validity.Validity.TheVariants.{NonNullable, AllValid, AllInvalid, Bits}
 use Rattle.vortex_array_kinds.proofs.RowLemmas.{length-rows, long_bits, nullable-long}
+use Rattle.vortex_array_kinds.proofs.TruthColumns.{same_column}
 use Rattle.vortex_array_select.specs.Selected.{IndexBelow, row_at, taken}
 use Rattle.vortex_array_select.specs.SelectedParts.{AreTaken, PlacesBelow, index_column, taken_type, taken_validity, taken_values}
-use Rattle.vortex_array_select.proofs.SelectedRows.{same-column}
 
 -- the rows of indices at places
 abbrev pub index_rows : Validity → List ℕ → List (Option Value)
@@ -104,9 +103,9 @@ place-below n AllInvalid places k h l s = absurd (false≢true s)
 place-below n (Bits set) places k h l s = h k l s
 
 -- items at places of which none is null
-pub present-taken : {X : Type 0} (d : X) (w : Validity) (items : List X) (places : List ℕ) (taken : List X) → (w ≡ NonNullable) ⊎ (w ≡ AllValid) → PlacesBelow (length items) w places → TakenAt items places taken → taken ≡ taken_values d w items places
-present-taken d w items places taken (inl e) h t = rw e (taken_is_map d items places taken (rw e at h) t)
-present-taken d w items places taken (inr e) h t = rw e (taken_is_map d items places taken (rw e at h) t)
+pub present-taken : {X : Type 0} (d : X) (w : Validity) (items : List X) (places : List ℕ) → (w ≡ NonNullable) ⊎ (w ≡ AllValid) → map (λ i. get_or items i d) places ≡ taken_values d w items places
+present-taken d w items places (inl e) = rw e refl
+present-taken d w items places (inr e) = rw e refl
 
 -- at each place that is not null the item there is taken
 pub are-taken : {X : Type 0} (d : X) (w : Validity) (items : List X) (places : List ℕ) → IsTrue (is_as_long w (length places)) → PlacesBelow (length items) w places → AreTaken w places items (taken_values d w items places)
@@ -199,7 +198,7 @@ pub taken-column : {X : Type 0} (type_of : X → Nullability → DType) (items :
 taken-column type_of items a values w places alike e same h =
     let many : length (rows_under (taken_validity w places a.validity) (items values)) ≡ length places =
     length-rows (taken_validity w places a.validity) (items values) (rw h.same_length (taken-long w a.validity places e)) ∙ h.same_length in
-    same-column _ _ _ _
+    same_column _ _ _ _
     (same (nullability_of (taken_validity w places a.validity)) ∙ taken_nulls (type_of a.values) a.validity w places alike)
     (ext_get_or None _ _ (many ∙ sym (length-taken (rows_under a.validity (items a.values)) w places e)) (λ k l. taken_row w a.validity places (items a.values) (items values) k e h (omega (arith, l, many))))
 

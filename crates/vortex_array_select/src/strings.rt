@@ -3,7 +3,7 @@ use crate::select::SelectValues;
 use crate::taken::take_lists_under;
 use std::alloc::{AllocError, Global};
 use vortex_array_kinds::{Strings, Validity};
-use vortex_array_rows::RowIndex;
+use vortex_array_rows::{RowIndex, filter_lists};
 use vortex_buffer::Mask;
 
 impl SelectValues for Strings {
@@ -13,7 +13,7 @@ impl SelectValues for Strings {
     }
 
     fn filter_values(&self, alloc: Global, mask: &Mask) -> Result<Strings, AllocError> {
-        let kept = self.lists().filter(alloc, mask)?;
+        let kept = filter_lists(alloc, self.lists(), mask)?;
         Ok(Strings::new(self.kind(), kept))
     }
 

@@ -5,7 +5,10 @@ ghost use Rattle.vortex_array_kinds.specs.Validities.{is_as_long};
 
 use std::alloc::{AllocError, Global};
 use vortex_array_kinds::Validity;
-use vortex_array_rows::{ByteLists, RowIndex, take_bits, take_bits_or, take_items, take_items_or};
+use vortex_array_lists::ByteLists;
+use vortex_array_rows::{
+    RowIndex, take_bits, take_bits_or, take_items, take_items_or, take_lists, take_lists_or,
+};
 use vortex_buffer::{BitBuffer, Buffer};
 
 // The bits at places, not set where a place is null.
@@ -63,11 +66,11 @@ pub(crate) fn take_lists_under<P: RowIndex>(
     ensures { IfOk result (λ taken. taken ≡ taken_values [] nulls.now lists.now (map P.place places.now)) }
 {
     match nulls {
-        Validity::NonNullable | Validity::AllValid => lists.take(alloc, places),
+        Validity::NonNullable | Validity::AllValid => take_lists(alloc, lists, places),
         Validity::AllInvalid => {
             let unset = BitBuffer::new_unset(alloc, places.len())?;
-            lists.take_or(alloc, places, &unset)
+            take_lists_or(alloc, lists, places, &unset)
         }
-        Validity::Bits(set) => lists.take_or(alloc, places, set),
+        Validity::Bits(set) => take_lists_or(alloc, lists, places, set),
     }
 }

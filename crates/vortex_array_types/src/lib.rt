@@ -5,10 +5,8 @@
 mod column;
 mod filter;
 mod filter_check;
-mod letters;
 mod names;
 mod native;
-mod octets;
 mod scalar;
 mod types;
 mod value_order;

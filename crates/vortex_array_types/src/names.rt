@@ -1,21 +1,120 @@
 // Names, texts and bytes: key types, whose order, equality and hash are those of their bytes.
-ghost use Rattle.std.specs.Prelude.{◌≡◌, IfOk};
+ghost use Rattle.std.specs.Prelude.{◌≡◌, IfOk, nat_eq, refl, string_bytes};
+ghost use Rattle.std.proofs.Common.{rules};
+ghost use Rattle.std.specs.Cmp.{partial_equiv_from_equiv, partial_order_from_own_ties};
+ghost use Rattle.std.specs.Cmp.Lexicographic.{nat_list_eq_equiv, pointwise, slice_cmp};
+ghost use Rattle.std.specs.Cmp.Rules.{comparing, hashing};
+ghost use Rattle.std.specs.Hash as fed;
+ghost use Rattle.std.specs.Ordering.{as_partial_cmp, nat_cmp};
 
-use crate::letters::Letters;
-use crate::octets::Octets;
 use std::alloc::{AllocError, Global};
+use std::cmp::Ordering;
 use std::fmt;
+use std::hash::{Hash, Hasher};
 use std::marker::Model;
+use vortex_buffer::Items;
+
+/// A text. Contracts see its bytes.
+pub struct Text {
+    text: String,
+}
+
+impl Drop for Text {
+    fn drop(self) {
+        let Text { text: _text } = self;
+    }
+}
+
+impl Model for Text {
+    ghost use Rattle.std.specs.Prelude.{ℕ, List, string_bytes};
+
+    ghost Value = { List ℕ };
+
+    ghost view = { λ t. string_bytes t.text };
+}
+
+impl Text {
+    /// A copy of this text.
+    pub fn from_str(alloc: Global, text: &str) -> Result<Text, AllocError>
+        ensures { IfOk result (λ t. t ≡ text.now) }
+    {
+        Ok(Text {
+            text: String::from_str(alloc, text)?,
+        })
+    }
+
+    /// The text.
+    pub fn as_str(&self) -> &str
+        ensures { result.now ≡ self.now }
+    {
+        self.text.as_str()
+    }
+
+    /// A second text of the same letters.
+    pub fn try_clone(&self, alloc: Global) -> Result<Text, AllocError>
+        ensures { IfOk result (λ t. t ≡ self.now) }
+    {
+        Text::from_str(alloc, self.as_str())
+    }
+}
+
+impl PartialEq for Text {
+    ghost eq = { pointwise nat_eq };
+
+    ghost laws = { partial_equiv_from_equiv nat_list_eq_equiv };
+
+    fn eq(&self, other: &Text) -> bool {
+        self.text == other.text
+    }
+}
+
+impl Eq for Text {
+    ghost laws = { nat_list_eq_equiv };
+}
+
+impl PartialOrd for Text {
+    ghost partial_cmp = { as_partial_cmp (slice_cmp nat_cmp) };
+
+    ghost laws = { partial_order_from_own_ties (Prim.search (comparing, rules)) (Prim.search (comparing, rules)) };
+
+    fn partial_cmp(&self, other: &Text) -> Option<Ordering> {
+        Some(self.cmp(other))
+    }
+}
+
+impl Ord for Text {
+    ghost cmp = { slice_cmp nat_cmp };
+
+    ghost total = { Prim.search (comparing, rules) };
+
+    ghost matches_partial_cmp = { λ x y. refl };
+
+    ghost matches_eq = { Prim.search (comparing, rules) };
+
+    fn cmp(&self, other: &Text) -> Ordering {
+        self.text.cmp(&other.text)
+    }
+}
+
+impl Hash for Text {
+    ghost hash_input = { fed.str };
+
+    ghost respects_eq = { Prim.search (hashing, rules) };
+
+    fn hash<H: Hasher>(&self, state: &mut H) {
+        self.text.as_str().hash(state);
+    }
+}
 
 /// The name of a column.
 #[derive(PartialEq, Eq, PartialOrd, Ord, Hash)]
 pub struct Name {
-    letters: Letters,
+    text: Text,
 }
 
 impl Drop for Name {
     fn drop(self) {
-        let Name { letters: _letters } = self;
+        let Name { text: _text } = self;
     }
 }
 
@@ -24,9 +123,9 @@ impl Model for Name {
 
     ghost Value = { List ℕ };
 
-    ghost view = { λ n. n.letters };
+    ghost view = { λ n. n.text };
 
-    ghost inverse = { λ l. record { letters = l } };
+    ghost inverse = { λ l. record { text = l } };
 }
 
 impl Name {
@@ -34,9 +133,8 @@ impl Name {
     pub fn from_str(alloc: Global, text: &str) -> Result<Name, AllocError>
         ensures { IfOk result (λ t. t ≡ text.now) }
     {
-        let text = String::from_str(alloc, text)?;
         Ok(Name {
-            letters: Letters::new(text),
+            text: Text::from_str(alloc, text)?,
         })
     }
 
@@ -44,15 +142,14 @@ impl Name {
     pub fn as_str(&self) -> &str
         ensures { result.now ≡ self.now }
     {
-        self.letters.as_str()
+        self.text.as_str()
     }
 
     /// A second name of the same text.
     pub fn try_clone(&self, alloc: Global) -> Result<Name, AllocError>
         ensures { IfOk result (λ n. n ≡ self.now) }
     {
-        let letters = self.letters.try_clone(alloc)?;
-        Ok(Name { letters })
+        Name::from_str(alloc, self.as_str())
     }
 }
 
@@ -74,64 +171,15 @@ impl fmt::Debug for Name {
     }
 }
 
-/// A text.
-#[derive(PartialEq, Eq, PartialOrd, Ord, Hash)]
-pub struct Text {
-    letters: Letters,
-}
-
-impl Drop for Text {
-    fn drop(self) {
-        let Text { letters: _letters } = self;
-    }
-}
-
-impl Model for Text {
-    ghost use Rattle.std.specs.Prelude.{ℕ, List};
-
-    ghost Value = { List ℕ };
-
-    ghost view = { λ t. t.letters };
-
-    ghost inverse = { λ l. record { letters = l } };
-}
-
-impl Text {
-    /// A copy of this text.
-    pub fn from_str(alloc: Global, text: &str) -> Result<Text, AllocError>
-        ensures { IfOk result (λ t. t ≡ text.now) }
-    {
-        let text = String::from_str(alloc, text)?;
-        Ok(Text {
-            letters: Letters::new(text),
-        })
-    }
-
-    /// The text.
-    pub fn as_str(&self) -> &str
-        ensures { result.now ≡ self.now }
-    {
-        self.letters.as_str()
-    }
-
-    /// A second text of the same letters.
-    pub fn try_clone(&self, alloc: Global) -> Result<Text, AllocError>
-        ensures { IfOk result (λ t. t ≡ self.now) }
-    {
-        let letters = self.letters.try_clone(alloc)?;
-        Ok(Text { letters })
-    }
-}
-
 /// A list of bytes.
 #[derive(PartialEq, Eq, PartialOrd, Ord, Hash)]
 pub struct Bytes {
-    octets: Octets,
+    items: Items<u8>,
 }
 
 impl Drop for Bytes {
     fn drop(self) {
-        let Bytes { octets: _octets } = self;
+        let Bytes { items: _items } = self;
     }
 }
 
@@ -140,9 +188,9 @@ impl Model for Bytes {
 
     ghost Value = { List ℕ };
 
-    ghost view = { λ b. b.octets };
+    ghost view = { λ b. b.items };
 
-    ghost inverse = { λ l. record { octets = l } };
+    ghost inverse = { λ l. record { items = l } };
 }
 
 impl Bytes {
@@ -152,7 +200,7 @@ impl Bytes {
     {
         let items = Vec::from_slice(alloc, bytes)?;
         Ok(Bytes {
-            octets: Octets::new(items),
+            items: Items::from_vec(items),
         })
     }
 
@@ -160,14 +208,13 @@ impl Bytes {
     pub fn as_slice(&self) -> &[u8]
         ensures { result.now ≡ self.now }
     {
-        self.octets.as_slice()
+        self.items.as_slice()
     }
 
     /// A second list of the same bytes.
     pub fn try_clone(&self, alloc: Global) -> Result<Bytes, AllocError>
         ensures { IfOk result (λ b. b ≡ self.now) }
     {
-        let octets = self.octets.try_clone(alloc)?;
-        Ok(Bytes { octets })
+        Bytes::from_slice(alloc, self.as_slice())
     }
 }

@@ -11,6 +11,14 @@ ghost use Rattle.vortex_array_types.specs.declared.types.PType.TheVariants as wi
 use crate::types::PType;
 use std::hash::Hash;
 
+/// The item where the test holds, else none.
+#[macro_export]
+macro_rules! item_if {
+    ($test:expr, $item:expr) => {
+        if $test { Some($item) } else { None }
+    };
+}
+
 /// A native type of whole numbers. Its meaning is a width, and for each item a number of that width.
 pub trait NativeValue: Copy + Eq + Hash {
     ghost number: { Self → ℤ };
@@ -61,11 +69,7 @@ impl NativeValue for u8 {
 
     #[inline]
     fn from_value(value: i128) -> Option<u8> {
-        if PType::U8.holds(value) {
-            Some(value as u8)
-        } else {
-            None
-        }
+        item_if!(PType::U8.holds(value), value as u8)
     }
 
     ghost same_number = { same_naturals };
@@ -87,11 +91,7 @@ impl NativeValue for u16 {
 
     #[inline]
     fn from_value(value: i128) -> Option<u16> {
-        if PType::U16.holds(value) {
-            Some(value as u16)
-        } else {
-            None
-        }
+        item_if!(PType::U16.holds(value), value as u16)
     }
 
     ghost same_number = { same_naturals };
@@ -113,11 +113,7 @@ impl NativeValue for u32 {
 
     #[inline]
     fn from_value(value: i128) -> Option<u32> {
-        if PType::U32.holds(value) {
-            Some(value as u32)
-        } else {
-            None
-        }
+        item_if!(PType::U32.holds(value), value as u32)
     }
 
     ghost same_number = { same_naturals };
@@ -139,11 +135,7 @@ impl NativeValue for u64 {
 
     #[inline]
     fn from_value(value: i128) -> Option<u64> {
-        if PType::U64.holds(value) {
-            Some(value as u64)
-        } else {
-            None
-        }
+        item_if!(PType::U64.holds(value), value as u64)
     }
 
     ghost same_number = { same_naturals };
@@ -165,11 +157,7 @@ impl NativeValue for i8 {
 
     #[inline]
     fn from_value(value: i128) -> Option<i8> {
-        if PType::I8.holds(value) {
-            Some(value as i8)
-        } else {
-            None
-        }
+        item_if!(PType::I8.holds(value), value as i8)
     }
 
     ghost same_number = { signed_Decides };
@@ -191,11 +179,7 @@ impl NativeValue for i16 {
 
     #[inline]
     fn from_value(value: i128) -> Option<i16> {
-        if PType::I16.holds(value) {
-            Some(value as i16)
-        } else {
-            None
-        }
+        item_if!(PType::I16.holds(value), value as i16)
     }
 
     ghost same_number = { signed_Decides };
@@ -217,11 +201,7 @@ impl NativeValue for i32 {
 
     #[inline]
     fn from_value(value: i128) -> Option<i32> {
-        if PType::I32.holds(value) {
-            Some(value as i32)
-        } else {
-            None
-        }
+        item_if!(PType::I32.holds(value), value as i32)
     }
 
     ghost same_number = { signed_Decides };
@@ -243,11 +223,7 @@ impl NativeValue for i64 {
 
     #[inline]
     fn from_value(value: i128) -> Option<i64> {
-        if PType::I64.holds(value) {
-            Some(value as i64)
-        } else {
-            None
-        }
+        item_if!(PType::I64.holds(value), value as i64)
     }
 
     ghost same_number = { signed_Decides };
@@ -256,11 +232,7 @@ impl NativeValue for i64 {
 impl CodeType for u8 {
     #[inline]
     fn from_place(place: usize) -> Option<u8> {
-        if PType::U8.holds(place as i128) {
-            Some(place as u8)
-        } else {
-            None
-        }
+        item_if!(PType::U8.holds(place as i128), place as u8)
     }
 
     ghost unsigned = { refl };
@@ -269,11 +241,7 @@ impl CodeType for u8 {
 impl CodeType for u16 {
     #[inline]
     fn from_place(place: usize) -> Option<u16> {
-        if PType::U16.holds(place as i128) {
-            Some(place as u16)
-        } else {
-            None
-        }
+        item_if!(PType::U16.holds(place as i128), place as u16)
     }
 
     ghost unsigned = { refl };
@@ -282,11 +250,7 @@ impl CodeType for u16 {
 impl CodeType for u32 {
     #[inline]
     fn from_place(place: usize) -> Option<u32> {
-        if PType::U32.holds(place as i128) {
-            Some(place as u32)
-        } else {
-            None
-        }
+        item_if!(PType::U32.holds(place as i128), place as u32)
     }
 
     ghost unsigned = { refl };
@@ -295,11 +259,7 @@ impl CodeType for u32 {
 impl CodeType for u64 {
     #[inline]
     fn from_place(place: usize) -> Option<u64> {
-        if PType::U64.holds(place as i128) {
-            Some(place as u64)
-        } else {
-            None
-        }
+        item_if!(PType::U64.holds(place as i128), place as u64)
     }
 
     ghost unsigned = { refl };

@@ -4,7 +4,7 @@ use Rattle.std.specs.List.{enumerate_from}
 use Rattle.vortex_array_types.specs.declared.types.DType.{DType}
 use Rattle.vortex_array_types.specs.Row.{Column}
 use Rattle.vortex_array_types.specs.declared.column.ColumnDesc.{ColumnDesc}
-use Rattle.vortex_table.specs.declared.scan.request.ScanRequest.{ScanRequest}
+use Rattle.vortex_scan_types.specs.declared.request.ScanRequest.{ScanRequest}
 use Rattle.vortex_array_types.specs.Cells.{Row}
 use Rattle.vortex_table.specs.Chosen.{Placed, is_chosen, projected}
 

@@ -10,10 +10,11 @@ use crate::batch::{PlainColumn, PlainContent, PlainSplit, Question};
 use crate::chosen::chosen_rows;
 use crate::judge::cell_there;
 use crate::rows::{PlainRow, PlainRows, PlainTable};
-use crate::valid::column_type;
 use std::alloc::{AllocError, Global};
 use vortex_array::{ColumnDesc, DType, Name};
-use vortex_table::{PartitionDesc, Projection, ScanRequest, SplitDesc, WorkScope};
+use vortex_array_types::column_type;
+use vortex_scan_types::{Projection, ScanRequest, WorkScope};
+use vortex_table::{PartitionDesc, SplitDesc};
 
 // One row of the chunks of a split.
 fn row_at(alloc: Global, columns: &[PlainColumn], row: usize) -> Result<PlainRow, AllocError>

@@ -5,7 +5,7 @@ ghost use Rattle.std.specs.Prelude.{◌≡◌};
 use crate::rows::{PlacedRow, PlainRow};
 use std::marker::Model;
 use vortex_array::{DType, Value};
-use vortex_table::WorkScope;
+use vortex_scan_types::WorkScope;
 
 /// A type and a list of rows, each a value or null.
 pub struct PlainColumn {

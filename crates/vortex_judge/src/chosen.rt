@@ -9,7 +9,7 @@ use crate::rows::{PlacedRow, PlainRow, PlainTable};
 use crate::truth::{cell, keeps};
 use std::alloc::{AllocError, Global};
 use vortex_array::{ColumnDesc, Name, Value};
-use vortex_table::{Projection, ScanRequest};
+use vortex_scan_types::{Projection, ScanRequest};
 
 // A second value of the row in the column with this name.
 fn cell_copy(

@@ -9,7 +9,7 @@ use crate::rows::{PlacedRow, PlainRow};
 use crate::same::{same_columns, same_places, same_scope};
 use std::alloc::{AllocError, Global};
 use vortex_array::{DType, Value};
-use vortex_table::WorkScope;
+use vortex_scan_types::WorkScope;
 
 // A second value or null.
 fn cell_copy(alloc: Global, cell: &Option<Value>) -> Result<Option<Value>, AllocError>

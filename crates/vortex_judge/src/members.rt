@@ -1,10 +1,10 @@
 // Which places selections and ranges hold.
 ghost use Rattle.std.specs.Prelude.{◌≡◌};
-ghost use Rattle.vortex_table.specs.Members.{in_selection, in_some_range, is_listed};
+ghost use Rattle.vortex_scan_types.specs.Members.{in_selection, in_some_range, is_listed};
 ghost use Rattle.vortex_table.specs.Chosen.{is_partition_chosen as is_chosen_partition, is_selected as is_selected_row};
 
 use std::ops::Range;
-use vortex_table::{ScanRequest, Selection};
+use vortex_scan_types::{ScanRequest, Selection};
 
 /// Whether the selection holds the place.
 pub fn holds(selection: &Selection, place: u64) -> bool

@@ -9,7 +9,8 @@ use crate::batch::{PlainBatch, PlainColumn, PlainContent, PlainSplit};
 use crate::rows::PlainRow;
 use std::alloc::{AllocError, Global};
 use vortex_array::{Array, RecordBatch, Value};
-use vortex_table::{Batch, Chunk, WorkScope};
+use vortex_scan_types::{Batch, WorkScope};
+use vortex_table::Chunk;
 
 // The row at a place.
 fn read_row(alloc: Global, array: &Array, i: usize) -> Result<Option<Value>, AllocError>

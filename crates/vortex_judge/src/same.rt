@@ -3,8 +3,8 @@ ghost use Rattle.std.specs.Prelude.{◌≡◌, ◌↔◌, IsTrue};
 
 use crate::batch::PlainColumn;
 use crate::rows::PlacedRow;
-use vortex_array::{DType, DecimalDType, Nullability, PType, Value};
-use vortex_table::WorkScope;
+use vortex_array::{DType, Value};
+use vortex_scan_types::WorkScope;
 
 /// Whether two values are one.
 pub fn same_value(a: &Value, b: &Value) -> bool
@@ -44,55 +44,11 @@ pub fn same_row(a: &[Option<Value>], b: &[Option<Value>]) -> bool
     same_cell(x, y) && same_row(a, b)
 }
 
-// Whether both types have nulls, or neither has.
-fn same_nullability(a: Nullability, b: Nullability) -> bool
-    ensures { IsTrue result ↔ (a ≡ b) }
-{
-    match (a, b) {
-        (Nullability::NonNullable, Nullability::NonNullable) => true,
-        (Nullability::Nullable, Nullability::Nullable) => true,
-        _ => false,
-    }
-}
-
-// Whether two widths are one.
-fn same_width(a: PType, b: PType) -> bool
-    ensures { IsTrue result ↔ (a ≡ b) }
-{
-    match (a, b) {
-        (PType::U8, PType::U8) => true,
-        (PType::U16, PType::U16) => true,
-        (PType::U32, PType::U32) => true,
-        (PType::U64, PType::U64) => true,
-        (PType::I8, PType::I8) => true,
-        (PType::I16, PType::I16) => true,
-        (PType::I32, PType::I32) => true,
-        (PType::I64, PType::I64) => true,
-        _ => false,
-    }
-}
-
-// Whether two decimal types are one.
-fn same_decimal(a: &DecimalDType, b: &DecimalDType) -> bool
-    ensures { IsTrue result ↔ (a.now ≡ b.now) }
-{
-    a.precision() == b.precision() && a.scale() == b.scale()
-}
-
 /// Whether two types are one.
 pub fn same_dtype(a: &DType, b: &DType) -> bool
     ensures { IsTrue result ↔ (a.now ≡ b.now) }
 {
-    match (a, b) {
-        (DType::Bool(m), DType::Bool(n)) => same_nullability(*m, *n),
-        (DType::Primitive(p, m), DType::Primitive(q, n)) => same_width(*p, *q)
-            && same_nullability(*m, *n),
-        (DType::Decimal(d, m), DType::Decimal(e, n)) => same_decimal(d, e)
-            && same_nullability(*m, *n),
-        (DType::Utf8(m), DType::Utf8(n)) => same_nullability(*m, *n),
-        (DType::Binary(m), DType::Binary(n)) => same_nullability(*m, *n),
-        _ => false,
-    }
+    *a == *b
 }
 
 // Whether two columns are one.

@@ -4,11 +4,11 @@ ghost use Rattle.vortex_array_types.specs.Cells.{cell_of};
 ghost use Rattle.vortex_array_types.specs.Order.{compares as compares_values};
 ghost use Rattle.vortex_array_types.specs.Truth.{all_three, and3, both, is_like as likes, keeps as keeps_row, lies_between, operand_value as value_in, or3, truth, truth_value};
 
-use crate::like::matches;
 use crate::order::compares;
 use vortex_array::{
     BetweenOptions, ColumnDesc, CompareOperator, Filter, Operand, StrictComparison, Value,
 };
+use vortex_array_predicates::text_matches;
 
 /// The row's value in the column with this name, or none where it is null or no column has the name.
 pub fn cell<'a>(columns: &[ColumnDesc], row: &'a [Option<Value>], name: &str) -> Option<&'a Value>
@@ -70,7 +70,7 @@ fn is_like(text: &Value, pattern: &Value) -> bool
     ensures { result ≡ likes text.now pattern.now }
 {
     match (text, pattern) {
-        (Value::Utf8(text), Value::Utf8(pattern)) => matches(pattern.as_str(), text.as_str()),
+        (Value::Utf8(text), Value::Utf8(pattern)) => text_matches(text.as_str(), pattern.as_str()),
         _ => false,
     }
 }

@@ -14,8 +14,8 @@ use Rattle.serde_json.specs.Find.{as_str, get}
 use Rattle.serde_json.specs.Read.{read}
 use Rattle.vortex_buffer.specs.declared.compare_operator.CompareOperator.{CompareOperator}
 use Rattle.vortex_array_types.specs.declared.filter.Filter.{Filter, the_lemmas}
-use Rattle.vortex_table.specs.declared.scan.request.Projection.TheVariants as projection
-use Rattle.vortex_table.specs.declared.scan.request.ScanRequest.{ScanRequest}
+use Rattle.vortex_scan_types.specs.declared.request.Projection.TheVariants as projection
+use Rattle.vortex_scan_types.specs.declared.request.ScanRequest.{ScanRequest}
 use Rattle.vortex_table.specs.Built.{is_built, is_comparison, is_one_u64, is_unlimited}
 use Rattle.vortex_query.specs.Fields.{header_name}
 use Rattle.vortex_query.specs.Members.{item_of, only_member, width}

@@ -1,5 +1,6 @@
 pub mod Answering
 pub mod Cut
+pub mod Described
 pub mod Digits
 pub mod Forms
 pub mod Gives

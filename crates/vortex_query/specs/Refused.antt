@@ -3,8 +3,8 @@ use Rattle.std.specs.Prelude.{◌≡◌, ◌⊎◌, ℕ, List, Option, Some, Non
 use Rattle.std.specs.declared.alloc.Global.{Global}
 use Rattle.vortex_buffer.specs.Counts.{Faulted}
 use Rattle.vortex_array_types.specs.declared.column.ColumnDesc.{ColumnDesc}
-use Rattle.vortex_table.specs.declared.scan.request.ScanRequest.{ScanRequest}
-use Rattle.vortex_table.specs.Valid.{first_unknown}
+use Rattle.vortex_scan_types.specs.declared.request.ScanRequest.{ScanRequest}
+use Rattle.vortex_scan_types.specs.Valid.{first_unknown}
 use Rattle.vortex_query.specs.Requested.{requested}
 use Rattle.vortex_query.specs.Spelled.{SpelledTable, spelled}
 use Rattle.vortex_query.specs.Query.{Query, asked_for, outcome, table_in}

@@ -10,9 +10,9 @@ use Rattle.vortex_buffer.specs.declared.compare_operator.CompareOperator.TheVari
 use Rattle.vortex_array_types.specs.declared.filter.Operand.{Operand}
 use Rattle.vortex_array_types.specs.declared.filter.Operand.TheVariants.{Column, Constant}
 use Rattle.vortex_array_types.specs.declared.filter.Filter.{Filter, Compare}
-use Rattle.vortex_table.specs.declared.scan.request.Projection.TheVariants as projection
-use Rattle.vortex_table.specs.declared.scan.request.ScanRequest.{ScanRequest}
-use Rattle.vortex_table.specs.declared.scan.selection.Selection.TheVariants as selection
+use Rattle.vortex_scan_types.specs.declared.request.Projection.TheVariants as projection
+use Rattle.vortex_scan_types.specs.declared.request.ScanRequest.{ScanRequest}
+use Rattle.vortex_scan_types.specs.declared.selection.Selection.TheVariants as selection
 use Rattle.vortex_table.specs.Built.{u64_type}
 use Rattle.vortex_query.specs.Members.{item_of, only_member, width}
 

@@ -7,7 +7,7 @@ use Rattle.vortex_array_types.specs.declared.scalar.Value.TheVariants.{Int}
 use Rattle.vortex_array_types.specs.declared.column.ColumnDesc.{ColumnDesc}
 use Rattle.vortex_array_types.specs.Cells.{Row}
 use Rattle.vortex_array.specs.ColumnOf.{column_of}
-use Rattle.vortex_table.specs.declared.scan.batch.Batch.{Batch}
+use Rattle.vortex_scan_types.specs.declared.batch.Batch.{Batch}
 use Rattle.vortex_table.specs.Given.{given}
 use Rattle.vortex_table.specs.Built.{u64_type}
 use Rattle.vortex_table.specs.Turn.{batch_rows}

@@ -13,8 +13,8 @@ use Rattle.vortex_array_types.specs.declared.scalar.Value.TheVariants as value
 use Rattle.vortex_array_types.specs.declared.column.ColumnDesc.{ColumnDesc}
 use Rattle.vortex_array_types.specs.Row.{is_nullable}
 use Rattle.vortex_array_types.specs.Cells.{Row}
-use Rattle.vortex_table.specs.declared.scan.request.Projection.{Projection}
-use Rattle.vortex_table.specs.declared.scan.request.Projection.TheVariants.{All, Columns}
+use Rattle.vortex_scan_types.specs.declared.request.Projection.{Projection}
+use Rattle.vortex_scan_types.specs.declared.request.Projection.TheVariants.{All, Columns}
 
 -- the name of a width
 abbrev pub width_text : PType → List ℕ

@@ -7,13 +7,14 @@ ghost use Rattle.vortex_query.specs.Text.{header_cell as cell_text, line_text, t
 ghost use Rattle.vortex_table.specs.Built.{u64_type};
 ghost use Rattle.vortex_table.specs.Given.{given};
 ghost use Rattle.vortex_table.specs.Turn.{batch_rows};
-ghost use Rattle.vortex_table.specs.declared.scan.request.Projection.TheVariants as projections;
+ghost use Rattle.vortex_scan_types.specs.declared.request.Projection.TheVariants as projections;
 
 use csv::{Writer, WriterBuilder};
 use std::alloc::{AllocError, Global};
 use vortex_array::{Array, ColumnDesc};
 use vortex_buffer::Buffer;
-use vortex_table::{Batch, Projection, lent_numbers, read_numbers};
+use vortex_scan_types::{Batch, Projection};
+use vortex_table::{lent_numbers, read_numbers};
 
 // A writer that holds nothing yet.
 fn new_writer(alloc: Global) -> Writer<Vec<u8>>

@@ -12,7 +12,7 @@ ghost use Rattle.vortex_table.specs.Answers.{Answers};
 ghost use Rattle.vortex_table.specs.Given.{contents_of, given, question};
 ghost use Rattle.vortex_table.specs.State.{ArrivesInOrder};
 ghost use Rattle.vortex_table.specs.Table.{FitsPartition};
-ghost use Rattle.vortex_table.specs.Valid.{first_unknown};
+ghost use Rattle.vortex_scan_types.specs.Valid.{first_unknown};
 
 mod refusal;
 
@@ -24,8 +24,9 @@ use refusal::Refusal;
 use std::alloc::Global;
 use vortex_buffer::Buffer;
 use vortex_io::MemorySource;
+use vortex_scan_types::{Batch, ScanRequest};
 use vortex_streams::{ByteSink, ByteSource, ReadError, read_all, write_all};
-use vortex_table::{Batch, Chunk, ScanError, ScanRequest, Table, scan_table};
+use vortex_table::{Chunk, ScanError, Table, scan_table};
 
 // The text of a request in the words `scan REQUEST`.
 fn request_word(words: &[String]) -> Option<&str>

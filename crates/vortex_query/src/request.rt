@@ -13,7 +13,7 @@ use thiserror::Error;
 use vortex_array::{
     CompareOperator, DType, Filter, Name, Nullability, Operand, PType, Scalar, Value as Cell,
 };
-use vortex_table::{Projection, ScanRequest, Selection};
+use vortex_scan_types::{Projection, ScanRequest, Selection};
 
 /// Why the text of a request is refused.
 #[derive(Clone, Copy, Debug, PartialEq, Eq, Error)]

@@ -3,10 +3,11 @@ ghost use Rattle.std.specs.Prelude.{◌≡◌, ◌<◌, ◌∷◌, [], All, IfOk
 ghost use Rattle.std.specs.List.{AllZip};
 ghost use Rattle.vortex_io.specs.declared.order.Order.TheVariants.{First};
 ghost use Rattle.vortex_query.specs.Spelled.{IsFresh, chunks_of, default_options, partition_of, pieces as pieces_of, spelled, table_seen};
-ghost use Rattle.vortex_query.specs.declared.table_text.TableTextError.TheVariants.{NotBuilt};
+ghost use Rattle.vortex_query.specs.declared.table_text.TableTextError.TheVariants.{NotBuilt, OutOfMemory};
 ghost use Rattle.vortex_table.specs.Built.{u64_type};
 ghost use Rattle.vortex_table.specs.Given.{contents_of};
 ghost use Rattle.vortex_table.specs.Table.{FitsPartition};
+ghost use Rattle.vortex_table.specs.declared.errors.TableError.TheVariants as tables;
 
 mod cut;
 mod fields;
@@ -20,7 +21,7 @@ use std::alloc::{AllocError, AllocFailed, Global};
 use thiserror::Error;
 use vortex_array::{ColumnDesc, Name};
 use vortex_io::MemorySource;
-use vortex_table::{Chunk, PartitionDesc, Table};
+use vortex_table::{Chunk, PartitionDesc, Table, TableError};
 
 /// Why the text of a table is refused.
 #[derive(Clone, Copy, Debug, PartialEq, Eq, Error)]
@@ -90,8 +91,23 @@ fn one_column(alloc: Global, name: Name) -> Result<Vec<ColumnDesc>, AllocError>
     Ok(columns)
 }
 
+// The refusal of a table whose description fits: memory was wanting.
+fn memory_wanting(error: &TableError) -> TableTextError
+    requires { error.now ≡ tables.OutOfMemory }
+    ensures { result ≡ OutOfMemory }
+{
+    match error {
+        TableError::OutOfMemory => TableTextError::OutOfMemory,
+        TableError::RepeatedName
+        | TableError::SourceCount
+        | TableError::ChunkListDoesNotFit { .. }
+        | TableError::TooLarge => unreachable!(),
+    }
+}
+
 /// The table that a text spells, of one source for each partition. The text is CSV without headers: a first record of one cell
-/// `name:u64`, and at most 65,536 further ones of one number each. `NotBuilt` comes exactly where it is not. Rows are cut into
+/// `name:u64`, and at most 65,536 further ones of one number each. `NotBuilt` comes only where it is not, and `OutOfMemory` only where
+/// memory ran out: with memory enough a text that is no such table is `NotBuilt`, and each other one makes its table. Rows are cut into
 /// partitions of 65,536 and these into splits of 8,192, of which the last may have fewer; no rows make no partition. The options
 /// have their defaults. Of no source anything was asked yet.
 pub fn table_of(
@@ -113,7 +129,6 @@ pub fn table_of(
     let columns = one_column(alloc, name)?;
     match Table::try_new(alloc, columns, partitions, sources) {
         Ok(table) => Ok(table),
-        // The description fits, so only memory can be wanting.
-        Err(_) => Err(TableTextError::OutOfMemory),
+        Err(refused) => Err(memory_wanting(&refused.error)),
     }
 }

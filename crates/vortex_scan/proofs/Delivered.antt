@@ -1,9 +1,9 @@
 -- Roots stay in step as results are delivered, and through whole calls.
-use Rattle.std.proofs.Common.{◌≡◌, ◌≢◌, ℕ, zero, suc, ◌+◌, ◌<◌, ◌≤◌, List, [], ◌∷◌, ◌++◌, refl, sym, ◌∙◌, ap, subst, Bool, true, false, cond, Option, None, Some, arith, length, ◌⊎◌, ⊎_elim}
-use Rattle.std.specs.Prelude.{slice_get, count_by, sum_by}
-use Rattle.std.specs.List.{AllByRecursion, remove}
+use Rattle.std.proofs.Common.{◌≡◌, ◌≢◌, ℕ, zero, suc, List, refl, sym, ◌∙◌, ap, subst, Bool, true, false, cond, Option, None, Some, arith, length, ⊎_elim}
+use Rattle.std.specs.Prelude.{slice_get, count_by}
+use Rattle.std.specs.List.{remove}
 use Rattle.std.proofs.Math.ListN.{set}
-use Rattle.vortex_io.specs.Source.{Completes, Taken, TakesNone, TakesOne, is_named}
+use Rattle.vortex_io.specs.Source.{Completes, Taken, TakesNone, TakesOne}
 use Rattle.vortex_io.specs.declared.payload.Payload.{Ghosts as Meanings}
 use Rattle.vortex_io.specs.declared.request.Completion.{Completion}
 use Rattle.vortex_io.specs.declared.request.Fetch.{Fetch}
@@ -14,7 +14,7 @@ use Rattle.vortex_scan.specs.declared.errors.Visited.{Visited}
 use Rattle.vortex_scan.specs.declared.errors.Visited.TheVariants as visited
 use Rattle.vortex_scan.specs.declared.item.Item.{Item}
 use Rattle.vortex_scan.specs.declared.item.Slot.{Slot}
-use Rattle.vortex_scan.specs.declared.place.RootId.{RootId}
+use Rattle.vortex_scan_types.specs.declared.place.RootId.{RootId}
 use Rattle.vortex_scan.specs.declared.worker.Worker.{Ghosts as Works}
 use Rattle.vortex_scan.specs.Asking.{AsksLive, AsksOnce, is_live, root_at}
 use Rattle.vortex_scan.specs.Fits.{ItemFits, LiveFits}
@@ -22,7 +22,7 @@ use Rattle.vortex_scan.specs.Going.{Advances, AsksAll, AsksIfDue, AsksOut, Ends,
 use Rattle.vortex_scan.specs.InStep.{IsInStep, StaysInStep, kept_of}
 use Rattle.vortex_scan.specs.RunState.{Live, RunState, is_of_root, live_with}
 use Rattle.vortex_scan.specs.Steps.{Asks, Delivers, Hands, WaitsFor, handed}
-use Rattle.vortex_scan.proofs.Asked.{asks_all_fits, asks_fits, asks_live_fits, asks_once_fits, asks_out_fits, gives_fits}
+use Rattle.vortex_scan.proofs.Asked.{asks_all_fits, asks_once_fits, gives_fits}
 use Rattle.vortex_scan.proofs.Tallies.{count_none, none_sum, one_if, removed_sum}
 use Rattle.vortex_scan.proofs.Fitting.{delivered_outstanding, each_both, left_fits, others}
 use Rattle.vortex_scan.proofs.Places.{each_at, each_remove, each_weaker, get_set, get_set_other}

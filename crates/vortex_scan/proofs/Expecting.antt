@@ -1,23 +1,22 @@
 -- A completion that is not expected, from a root in step, is a lie.
-use Rattle.std.proofs.Common.{◌≡◌, ◌≢◌, ℕ, ◌-◌, ◌^◌, ◌+◌, ◌<◌, ◌≤◌, List, [], ◌∷◌, refl, sym, ◌∙◌, ap, Bool, true, false, cond, ◌&&◌, Option, None, Some, arith, length, Result, Ok, Err, IsTrue, inl, inr, ◌⊎◌, ⊎_elim}
+use Rattle.std.proofs.Common.{◌≡◌, ℕ, ◌-◌, ◌^◌, ◌<◌, List, refl, ◌∙◌, ap, Bool, true, false, cond, ◌&&◌, Some, arith, Result, Ok, Err, inl, inr, ◌⊎◌, ⊎_elim}
 use Rattle.std.specs.Prelude.{slice_get, eqb, ltb, count_by, sum_by}
-use Rattle.std.specs.List.{AllByRecursion, list_any}
+use Rattle.std.specs.List.{list_any}
 use Rattle.std.proofs.Math.ListN.{set}
 use Rattle.std.proofs.lemmas.Bool.Decides.{nat_tests}
 use Rattle.vortex_buffer.specs.Counts.{Rose}
-use Rattle.vortex_io.specs.Source.{Completes, IsHonest, TakesNone, TakesOne, is_named, is_of_kind}
+use Rattle.vortex_io.specs.Source.{Completes, IsHonest, TakesNone, TakesOne, is_of_kind}
 use Rattle.vortex_io.specs.declared.ids.IoOwnerId.{IoOwnerId}
 use Rattle.vortex_io.specs.declared.ids.IoRequestId.{IoRequestId}
 use Rattle.vortex_io.specs.declared.payload.Payload.{Ghosts as Meanings}
 use Rattle.vortex_io.specs.declared.request.Completion.{Completion}
-use Rattle.vortex_io.specs.declared.request.Fetch.{Fetch}
 use Rattle.vortex_io.specs.declared.request.IoRequest.{IoRequest}
 use Rattle.vortex_io.specs.declared.source.IoSource.{Ghosts}
 use Rattle.vortex_scan.specs.declared.errors.RunError.{RunError}
 use Rattle.vortex_scan.specs.declared.errors.RunError.TheVariants as error
 use Rattle.vortex_scan.specs.declared.item.Item.{Item}
 use Rattle.vortex_scan.specs.declared.item.Slot.{Slot}
-use Rattle.vortex_scan.specs.declared.place.RootId.{RootId}
+use Rattle.vortex_scan_types.specs.declared.place.RootId.{RootId}
 use Rattle.vortex_scan.specs.declared.state.Output.{Output}
 use Rattle.vortex_scan.specs.declared.state.Output.TheVariants as output
 use Rattle.vortex_scan.specs.declared.state.State.{State}
@@ -32,14 +31,13 @@ use Rattle.vortex_scan.specs.InStep.{IsInStep, LiedAt, LiesByCause, StaysInStep,
 use Rattle.vortex_scan.specs.RunState.{Live, RunState, is_of_root}
 use Rattle.vortex_scan.specs.Sources.{KeepsEach}
 use Rattle.vortex_scan.specs.Steps.{expects}
-use Rattle.vortex_scan.proofs.Asked.{asks_all_fits, asks_once_fits}
+use Rattle.vortex_scan.proofs.Asked.{asks_all_fits}
 use Rattle.vortex_scan.proofs.Tallies.{count_none, none_sum, one_if}
 use Rattle.vortex_scan.proofs.Delivered.{asks_all_stays, asks_due_stays, asks_once_stays, gives_stays, goes_stays}
 use Rattle.vortex_scan.proofs.Keeping.{asks_all_keeps, asks_due_keeps, asks_once_keeps, gives_keeps, goes_keeps, slot_before, slots_at}
 use Rattle.vortex_scan.proofs.Places.{each_weaker, get_set, none_passes}
 use Rattle.vortex_scan.proofs.Quieting.{rose_in_whole}
 use Rattle.vortex_scan.proofs.Stepping.{taken_count, taken_named}
-use Rattle.vortex_scan.proofs.Turning.{asks_due_fits}
 
 -- a count either rose or did not
 rose_or_not : (before now : ℕ) → Rose before now ⊎ IsHonest before now

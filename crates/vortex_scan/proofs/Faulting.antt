@@ -1,7 +1,6 @@
 -- A refusal over a source has its cause in the call.
-use Rattle.std.proofs.Common.{◌≡◌, ℕ, ◌≤◌, refl, ap, true, false, Some, arith, length, Result, Ok, Err, inl, inr, ◌⊎◌, ⊎_elim}
+use Rattle.std.proofs.Common.{◌≡◌, ℕ, refl, true, Some, Result, Ok, Err, ⊎_elim}
 use Rattle.std.specs.Prelude.{List, slice_get}
-use Rattle.std.proofs.Math.ListN.{set}
 use Rattle.vortex_io.specs.declared.payload.Payload.{Ghosts as Meanings}
 use Rattle.vortex_io.specs.declared.request.Completion.{Completion}
 use Rattle.vortex_io.specs.declared.request.IoRequest.{IoRequest}
@@ -10,14 +9,14 @@ use Rattle.vortex_scan.specs.declared.errors.RunError.{RunError}
 use Rattle.vortex_scan.specs.declared.errors.RunError.TheVariants as error
 use Rattle.vortex_scan.specs.declared.item.Item.{Item}
 use Rattle.vortex_scan.specs.declared.item.Slot.{Slot}
-use Rattle.vortex_scan.specs.declared.place.RootId.{RootId}
+use Rattle.vortex_scan_types.specs.declared.place.RootId.{RootId}
 use Rattle.vortex_scan.specs.declared.state.Output.{Output}
 use Rattle.vortex_scan.specs.declared.state.Output.TheVariants as output
 use Rattle.vortex_scan.specs.declared.state.State.{State}
 use Rattle.vortex_scan.specs.declared.state.State.TheVariants as state
 use Rattle.vortex_scan.specs.declared.worker.Worker.{Ghosts as Works}
 use Rattle.vortex_scan.specs.Asking.{AskingFails, root_at}
-use Rattle.vortex_scan.specs.Fails.{AskFails, DeliverFails, FollowFails, PollFaults, PollMisses, PublishFails, SubmitFaults, VisitFails, WaitFails, WaitFaults, WaitMisses}
+use Rattle.vortex_scan.specs.Fails.{AskFails, DeliverFails, FollowFails, PollMisses, PublishFails, SubmitFaults, VisitFails, WaitFails, WaitMisses}
 use Rattle.vortex_scan.specs.Fits.{ItemFits, LiveFits}
 use Rattle.vortex_scan.specs.Going.{AdvanceFails, AskingFailsThen, AskingOutFails, AsksOutFails, TurnFails, TurnFailsThen, VisitLeastFails, VisitingFails}
 use Rattle.vortex_scan.specs.RunState.{Live, RunState, put}

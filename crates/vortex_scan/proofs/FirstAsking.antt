@@ -5,7 +5,7 @@ use Rattle.std.proofs.lemmas.Bool.{ltb-true}
 use Rattle.std.proofs.lemmas.Bool.Decides.{nat_tests}
 use Rattle.std.proofs.lemmas.Option.{slice_get_within}
 use Rattle.vortex_scan.specs.declared.item.Item.{Item}
-use Rattle.vortex_scan.specs.declared.place.RootId.{RootId}
+use Rattle.vortex_scan_types.specs.declared.place.RootId.{RootId}
 use Rattle.vortex_scan.specs.Asking.{FirstOf, IsAsking, IsAskingBelow, IsFirstAsking}
 
 module _ {W : Type 0} (items : List (Item W)) (i : ℕ) (item : Item W) (there : slice_get items i ≡ Some item) where

@@ -1,8 +1,8 @@
 -- What a run keeps, through each step.
-use Rattle.std.proofs.Common.{◌≡◌, ◌≢◌, ℕ, zero, suc, ◌+◌, ◌<◌, ◌≤◌, List, [], ◌∷◌, ◌++◌, refl, sym, ◌∙◌, ap, subst, Bool, true, false, cond, not, ◌||◌, Option, None, Some, arith, length, filter, map, inl, inr, ◌⊎◌, ⊎_elim}
+use Rattle.std.proofs.Common.{◌≡◌, ◌≢◌, ℕ, zero, suc, ◌+◌, ◌<◌, ◌≤◌, List, [], ◌∷◌, ◌++◌, refl, sym, ◌∙◌, ap, subst, Bool, true, false, cond, not, ◌||◌, Some, arith, length, filter, map, ⊎_elim}
 use Rattle.std.specs.Prelude.{slice_get, eqb}
 use Rattle.std.specs.List.{AllByRecursion, list_any, remove}
-use Rattle.std.proofs.Math.ListN.{set, length-set}
+use Rattle.std.proofs.Math.ListN.{set}
 use Rattle.std.proofs.lemmas.Bool.{eqb-true}
 use Rattle.std.proofs.lemmas.Bool.Decides.{nat_tests}
 use Rattle.std.proofs.lemmas.List.Folds.{list_any-append}
@@ -14,12 +14,12 @@ use Rattle.vortex_io.specs.declared.request.Fetch.{Fetch}
 use Rattle.vortex_io.specs.declared.source.IoSource.{Ghosts}
 use Rattle.vortex_scan.specs.declared.item.Item.{Item}
 use Rattle.vortex_scan.specs.declared.item.Slot.{Slot}
-use Rattle.vortex_scan.specs.declared.place.RootId.{RootId}
+use Rattle.vortex_scan_types.specs.declared.place.RootId.{RootId}
 use Rattle.vortex_scan.specs.Fetching.{numbers}
-use Rattle.vortex_scan.specs.Fits.{AreKept, AreOwn, AreRising, ItemFits, LiveFits, RunHolds}
+use Rattle.vortex_scan.specs.Fits.{AreKept, AreOwn, AreRising, ItemFits, LiveFits}
 use Rattle.vortex_scan.specs.Numbers.{repeats}
-use Rattle.vortex_scan.specs.RunState.{Live, RunState, is_of_root, live_with}
-use Rattle.vortex_scan.specs.Steps.{CancelsLive, Delivers, Hands, handed}
+use Rattle.vortex_scan.specs.RunState.{is_of_root, live_with}
+use Rattle.vortex_scan.specs.Steps.{Delivers, Hands, handed}
 use Rattle.vortex_scan.specs.declared.worker.Worker.{Ghosts as Works}
 use Rattle.std.proofs.lemmas.List.{map-append}
 use Rattle.vortex_scan.proofs.Places.{each_append, each_at, each_before, each_behind, each_filter, each_push, each_remove, each_set_of_removed, each_weaker, get_set, get_set_other, none_passes}
@@ -182,7 +182,7 @@ each_unmap f Q [] a = tt
 each_unmap f Q (x ∷ xs) a = (a.0, each_unmap f Q xs a.1)
 
 -- what holds of all fetches holds of those that are left
-each_fewer : (Q : Fetch → Type 0) (owner : IoOwnerId) (number : IoRequestId) (old new : List Fetch) (entry : Fetch) → Taken owner number old new entry → AllByRecursion Q old → AllByRecursion Q new
+pub each_fewer : (Q : Fetch → Type 0) (owner : IoOwnerId) (number : IoRequestId) (old new : List Fetch) (entry : Fetch) → Taken owner number old new entry → AllByRecursion Q old → AllByRecursion Q new
 each_fewer Q owner number old new entry t a =
     let b : AllByRecursion Q (t.before ++ entry ∷ t.behind) = rw t.stood at a in
     rw t.left (each_append Q t.before t.behind (each_before Q t.before (entry ∷ t.behind) b) (each_behind Q t.before (entry ∷ t.behind) b).1)

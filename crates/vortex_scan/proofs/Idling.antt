@@ -1,5 +1,5 @@
 -- A call that goes on answers that nothing is live exactly where nothing is as it begins.
-use Rattle.std.proofs.Common.{◌≡◌, ◌≢◌, ℕ, List, [], ◌∷◌, refl, sym, ◌∙◌, ap, Bool, true, false, ◌||◌, Some, Result, Ok, Err, length, inl, inr, ◌⊎◌, ⊎_elim, ◌↔◌}
+use Rattle.std.proofs.Common.{◌≡◌, ◌≢◌, ℕ, List, [], ◌∷◌, refl, sym, ◌∙◌, ap, true, false, Some, Result, Ok, ⊎_elim, ◌↔◌}
 use Rattle.std.specs.Prelude.{slice_get}
 use Rattle.vortex_io.specs.declared.payload.Payload.{Ghosts as Meanings}
 use Rattle.vortex_io.specs.declared.source.IoSource.{Ghosts}
@@ -9,11 +9,11 @@ use Rattle.vortex_scan.specs.declared.errors.RunError.{RunError}
 use Rattle.vortex_scan.specs.declared.errors.Visited.{Visited}
 use Rattle.vortex_scan.specs.declared.errors.Visited.TheVariants as visited
 use Rattle.vortex_scan.specs.declared.item.Item.{Item}
-use Rattle.vortex_scan.specs.declared.place.RootId.{RootId}
+use Rattle.vortex_scan_types.specs.declared.place.RootId.{RootId}
 use Rattle.vortex_scan.specs.declared.worker.Worker.{Ghosts as Works}
 use Rattle.vortex_scan.specs.Asking.{is_live, root_at}
 use Rattle.vortex_scan.specs.Fits.{ArePeopled, LiveFits}
-use Rattle.vortex_scan.specs.Going.{AdvanceFails, Advances, AskingFailsThen, Ends, TurnFails, TurnFailsThen, Turns, VisitLeastFails}
+use Rattle.vortex_scan.specs.Going.{AdvanceFails, Advances, AskingFailsThen, Ends, TurnFailsThen, Turns, VisitLeastFails}
 use Rattle.vortex_scan.specs.RunState.{Live, RunState, has_root}
 use Rattle.vortex_scan.proofs.Rooted.{SameRoots, asks_all_same, asks_due_same, goes_same, has_own, is_live_at, peopled_same}
 

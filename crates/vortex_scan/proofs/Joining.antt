@@ -1,6 +1,6 @@
 -- Roots stay in step as one joins, and as one is cancelled.
-use Rattle.std.proofs.Common.{◌≡◌, ◌≢◌, ℕ, zero, suc, ◌+◌, ◌<◌, List, [], ◌∷◌, ◌++◌, refl, sym, ◌∙◌, ap, Bool, true, false, cond, not, Option, None, Some, arith, length, filter, inl, inr, ◌⊎◌, ⊎_elim}
-use Rattle.std.specs.Prelude.{slice_get, eqb, count_by, sum_by}
+use Rattle.std.proofs.Common.{◌≡◌, ◌≢◌, ℕ, zero, suc, ◌+◌, List, [], ◌∷◌, ◌++◌, refl, sym, ◌∙◌, ap, Bool, true, false, cond, not, Option, None, Some, arith, length, filter, inl, inr, ◌⊎◌, ⊎_elim}
+use Rattle.std.specs.Prelude.{slice_get, count_by, sum_by}
 use Rattle.std.specs.List.{AllByRecursion}
 use Rattle.std.proofs.Math.ListN.{set}
 use Rattle.std.proofs.lemmas.Bool.Decides.{nat_tests}
@@ -10,9 +10,9 @@ use Rattle.vortex_io.specs.declared.request.Fetch.{Fetch}
 use Rattle.vortex_io.specs.declared.source.IoSource.{Ghosts}
 use Rattle.vortex_scan.specs.declared.item.Item.{Item}
 use Rattle.vortex_scan.specs.declared.item.Slot.{Slot}
-use Rattle.vortex_scan.specs.declared.place.RootId.{RootId}
+use Rattle.vortex_scan_types.specs.declared.place.RootId.{RootId}
 use Rattle.vortex_scan.specs.Fits.{ItemFits, LiveFits}
-use Rattle.vortex_scan.specs.InStep.{IsInStep, StaysInStep, kept_of}
+use Rattle.vortex_scan.specs.InStep.{StaysInStep, kept_of}
 use Rattle.vortex_scan.specs.RunState.{Live, is_of_root, live_with}
 use Rattle.vortex_scan.specs.Steps.{Cancels, CancelsLive}
 use Rattle.vortex_scan.proofs.Tallies.{none_sum}

@@ -1,5 +1,5 @@
 -- Every step keeps every source.
-use Rattle.std.proofs.Common.{◌≡◌, ℕ, zero, suc, List, [], ◌∷◌, refl, ap, subst, sym, ◌∙◌, Bool, true, false, ◌&&◌, Option, None, Some, length}
+use Rattle.std.proofs.Common.{◌≡◌, ℕ, zero, suc, List, [], ◌∷◌, refl, ap, subst, sym, Bool, true, false, ◌&&◌, Option, None, Some, length}
 use Rattle.std.specs.Prelude.{slice_get}
 use Rattle.std.specs.List.{remove}
 use Rattle.vortex_io.specs.declared.payload.Payload.{Ghosts as Meanings}
@@ -11,7 +11,7 @@ use Rattle.vortex_scan.specs.declared.errors.Visited.{Visited}
 use Rattle.vortex_scan.specs.declared.errors.Visited.TheVariants as visited
 use Rattle.vortex_scan.specs.declared.item.Item.{Item}
 use Rattle.vortex_scan.specs.declared.item.Slot.{Slot}
-use Rattle.vortex_scan.specs.declared.place.RootId.{RootId}
+use Rattle.vortex_scan_types.specs.declared.place.RootId.{RootId}
 use Rattle.vortex_scan.specs.declared.state.Output.{Output}
 use Rattle.vortex_scan.specs.declared.state.Output.TheVariants as output
 use Rattle.vortex_scan.specs.declared.state.State.{State}

@@ -1,5 +1,5 @@
 -- An item that leaves, and one that publishes, from what their parts did.
-use Rattle.std.proofs.Common.{◌≡◌, ◌≢◌, ◌<◌, ℕ, List, [], refl, sym, subst, ◌∙◌, ap, Bool, true, false, ◌&&◌, cond, Some, Ok, Err, inl, inr, ◌⊎◌, ⊎_elim, length, slice_index_or}
+use Rattle.std.proofs.Common.{◌≡◌, ◌≢◌, ◌<◌, ℕ, List, [], sym, subst, ◌∙◌, ap, Bool, true, false, ◌&&◌, cond, Some, Ok, Err, inl, inr, ◌⊎◌, ⊎_elim, length, slice_index_or}
 use Rattle.std.specs.Prelude.{slice_get}
 use Rattle.std.specs.List.{remove}
 use Rattle.std.proofs.Math.ListN.{set}

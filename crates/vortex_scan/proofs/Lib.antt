@@ -26,3 +26,13 @@ pub mod Stepping
 pub mod Delivered
 pub mod Joining
 pub mod Expecting
+pub mod Owing
+pub mod Chains
+pub mod Named
+pub mod Bagged
+pub mod Ordering
+pub mod Behaved
+pub mod Refusing
+pub mod Permitted
+pub mod WholeOrder
+pub mod Ended

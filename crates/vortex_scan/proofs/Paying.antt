@@ -1,9 +1,8 @@
 -- Visits are paid for by asking.
-use Rattle.std.proofs.Common.{◌≡◌, ℕ, zero, suc, ◌+◌, ◌-◌, ◌*◌, ◌^◌, ◌<◌, ◌≤◌, refl, sym, ◌∙◌, ap, Bool, true, false, Option, None, Some, arith, length, inl, inr, ⊎_elim}
+use Rattle.std.proofs.Common.{◌≡◌, ℕ, zero, suc, ◌+◌, ◌-◌, ◌*◌, ◌^◌, ◌<◌, ◌≤◌, refl, ◌∙◌, ap, Bool, true, false, Option, None, Some, arith, length, ⊎_elim}
 use Rattle.std.specs.Prelude.{slice_get}
 use Rattle.std.specs.Option.{option_map}
 use Rattle.std.proofs.lemmas.Bool.Decides.{nat_tests}
-use Rattle.std.proofs.lemmas.Option.{slice_get_within}
 use Rattle.vortex_io.specs.declared.payload.Payload.{Ghosts as Meanings}
 use Rattle.vortex_io.specs.declared.source.IoSource.{Ghosts}
 use Rattle.vortex_scan.specs.declared.errors.Progress.{Progress}
@@ -15,9 +14,8 @@ use Rattle.vortex_scan.specs.declared.item.Slot.{Slot}
 use Rattle.vortex_scan.specs.declared.worker.Worker.{Ghosts as Works}
 use Rattle.vortex_scan.specs.Fits.{visits_since}
 use Rattle.vortex_scan.specs.Going.{AdvanceFails, Advances, AskingFailsThen, AsksIfDue, Ends, GoesOn, TurnFails, TurnFailsThen, Turns, VisitLeastFails, VisitingFails}
-use Rattle.vortex_scan.specs.RunState.{Live, RunState}
+use Rattle.vortex_scan.specs.RunState.{RunState}
 use Rattle.vortex_scan.specs.Sources.{KeepsEach}
-use Rattle.vortex_scan.specs.Steps.{VisitsLeast}
 use Rattle.vortex_scan.specs.Visits.{is_due}
 use Rattle.vortex_scan.specs.Whole.{AsksEnough}
 use Rattle.vortex_scan.proofs.Keeping.{asks_all_keeps, asks_due_keeps, ends_keeps, goes_keeps, slot_after, slots_at, turns_keeps, visits_keeps}

@@ -1,5 +1,5 @@
 -- Sources that were asked once each.
-use Rattle.std.proofs.Common.{◌≡◌, ◌≢◌, ℕ, zero, suc, ◌<◌, ◌≤◌, List, [], ◌∷◌, refl, sym, ◌∙◌, ap, Bool, true, false, ◌||◌, Option, None, Some, arith, length}
+use Rattle.std.proofs.Common.{◌≡◌, ◌≢◌, ℕ, zero, suc, ◌<◌, ◌≤◌, refl, sym, ◌∙◌, ap, Bool, true, false, ◌||◌, Option, None, Some, arith, length}
 use Rattle.std.specs.Prelude.{slice_get, eqb, is_some}
 use Rattle.std.proofs.lemmas.Bool.{eqb-true}
 use Rattle.std.proofs.lemmas.Bool.Decides.{nat_tests}
@@ -8,7 +8,7 @@ use Rattle.vortex_io.specs.declared.payload.Payload.{Ghosts as Meanings}
 use Rattle.vortex_io.specs.declared.request.Completion.{Completion}
 use Rattle.vortex_io.specs.declared.source.IoSource.{Ghosts}
 use Rattle.vortex_scan.specs.declared.item.Slot.{Slot}
-use Rattle.vortex_scan.specs.declared.place.RootId.{RootId}
+use Rattle.vortex_scan_types.specs.declared.place.RootId.{RootId}
 use Rattle.vortex_scan.specs.declared.worker.Worker.{Ghosts as Works}
 use Rattle.vortex_scan.specs.Asking.{AsksLive, AsksOnce, is_live, root_at}
 use Rattle.vortex_scan.specs.RunState.{Live}

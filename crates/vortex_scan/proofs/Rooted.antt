@@ -1,7 +1,7 @@
 -- Which roots are live, and have items, through each step.
-use Rattle.std.proofs.Common.{◌≡◌, ◌≢◌, ℕ, zero, suc, ◌+◌, List, [], ◌∷◌, ◌++◌, refl, sym, ◌∙◌, ap, subst, Bool, true, false, cond, not, ◌&&◌, ◌||◌, Option, None, Some, arith, length, filter, map, inl, inr, ◌⊎◌, ⊎_elim}
+use Rattle.std.proofs.Common.{◌≡◌, ◌≢◌, ℕ, zero, suc, ◌+◌, List, [], ◌∷◌, ◌++◌, refl, sym, ◌∙◌, ap, Bool, true, false, cond, not, ◌&&◌, ◌||◌, Option, None, Some, arith, length, filter, inl, inr, ◌⊎◌, ⊎_elim}
 use Rattle.std.specs.Prelude.{slice_get, eqb}
-use Rattle.std.specs.List.{AllByRecursion, list_any, remove}
+use Rattle.std.specs.List.{list_any, remove}
 use Rattle.std.proofs.Math.ListN.{set}
 use Rattle.std.proofs.lemmas.Bool.{eqb-true}
 use Rattle.std.proofs.lemmas.Bool.Decides.{nat_tests}
@@ -11,14 +11,13 @@ use Rattle.vortex_io.specs.declared.payload.Payload.{Ghosts as Meanings}
 use Rattle.vortex_io.specs.declared.request.Completion.{Completion}
 use Rattle.vortex_io.specs.declared.request.IoRequest.{IoRequest}
 use Rattle.vortex_io.specs.declared.source.IoSource.{Ghosts}
-use Rattle.vortex_scan.specs.declared.batch.WorkScope.{WorkScope}
 use Rattle.vortex_scan.specs.declared.errors.Progress.{Progress}
 use Rattle.vortex_scan.specs.declared.errors.Progress.TheVariants as progress
 use Rattle.vortex_scan.specs.declared.errors.Visited.{Visited}
 use Rattle.vortex_scan.specs.declared.errors.Visited.TheVariants as visited
 use Rattle.vortex_scan.specs.declared.item.Item.{Item}
 use Rattle.vortex_scan.specs.declared.item.Slot.{Slot}
-use Rattle.vortex_scan.specs.declared.place.RootId.{RootId}
+use Rattle.vortex_scan_types.specs.declared.place.RootId.{RootId}
 use Rattle.vortex_scan.specs.declared.state.Output.{Output}
 use Rattle.vortex_scan.specs.declared.state.Output.TheVariants as output
 use Rattle.vortex_scan.specs.declared.state.State.{State}
@@ -28,7 +27,7 @@ use Rattle.vortex_scan.specs.Asking.{AsksLive, AsksOnce, is_live, root_at}
 use Rattle.vortex_scan.specs.Fits.{ArePeopled, ItemFits, LiveFits}
 use Rattle.vortex_scan.specs.Going.{Advances, AsksAll, AsksIfDue, AsksOut, Ends, Gives, GoesOn, Turns}
 use Rattle.vortex_scan.specs.RunState.{Live, RunState, has_root, is_of_root, live_with, liveness, put}
-use Rattle.vortex_scan.specs.Steps.{Asks, Cancels, CancelsLive, Delivers, DeliversAny, Follows, Publishes, Retires, Settles, Spawns, Visits, WaitsFor, child_of, computed, handed, published}
+use Rattle.vortex_scan.specs.Steps.{Asks, Cancels, CancelsLive, Delivers, DeliversAny, Follows, Publishes, Retires, Settles, Visits, WaitsFor, child_of, computed, handed, published}
 use Rattle.vortex_scan.specs.Whole.{TellsRoots}
 use Rattle.vortex_scan.proofs.Fitting.{any_before, any_behind}
 use Rattle.vortex_scan.proofs.Places.{each_at, get_set, get_set_other}
@@ -47,7 +46,7 @@ is_live_at (s ∷ ss) zero live = ap (λ b. Some b) live
 is_live_at (s ∷ ss) (suc i) live = is_live_at ss i live
 
 -- a slot changes, and may end
-live_put : {S : Type 0} (slots : List (Slot S)) (i : ℕ) (slot' : Slot S) → liveness (set slots i slot') ≡ set (liveness slots) i slot'.live
+pub live_put : {S : Type 0} (slots : List (Slot S)) (i : ℕ) (slot' : Slot S) → liveness (set slots i slot') ≡ set (liveness slots) i slot'.live
 live_put [] zero slot' = refl
 live_put [] (suc i) slot' = refl
 live_put (s ∷ ss) zero slot' = refl

@@ -1,34 +1,32 @@
 -- Roots stay in step with their sources.
-use Rattle.std.proofs.Common.{◌≡◌, ◌≢◌, ℕ, zero, suc, ◌+◌, ◌<◌, ◌≤◌, List, [], ◌∷◌, ◌++◌, refl, sym, ◌∙◌, ap, subst, Bool, true, false, cond, ◌&&◌, Option, None, Some, arith, length, filter, not, inl, inr, ◌⊎◌, ⊎_elim}
+use Rattle.std.proofs.Common.{◌≡◌, ◌≢◌, ℕ, ◌+◌, List, [], ◌∷◌, ◌++◌, refl, sym, ◌∙◌, ap, subst, Bool, true, false, cond, ◌&&◌, Some, arith, not}
 use Rattle.std.specs.Prelude.{slice_get, eqb, count_by, sum_by}
 use Rattle.std.specs.List.{AllByRecursion, remove}
 use Rattle.std.proofs.Math.ListN.{set}
 use Rattle.std.proofs.lemmas.Bool.Decides.{nat_tests}
 use Rattle.std.proofs.lemmas.List.Sums.{sum_by_push}
-use Rattle.vortex_io.specs.Source.{Completes, Taken, TakesNone, TakesOne, fetches, is_named, is_of_others, without_owner}
+use Rattle.vortex_io.specs.Source.{Taken, fetches, is_named, is_of_others, without_owner}
 use Rattle.vortex_io.specs.declared.ids.IoOwnerId.{IoOwnerId}
 use Rattle.vortex_io.specs.declared.ids.IoRequestId.{IoRequestId}
-use Rattle.vortex_io.specs.declared.payload.Payload.{Ghosts as Meanings}
-use Rattle.vortex_io.specs.declared.request.Completion.{Completion}
 use Rattle.vortex_io.specs.declared.request.Fetch.{Fetch}
 use Rattle.vortex_io.specs.declared.request.IoRequest.{IoRequest}
 use Rattle.vortex_io.specs.declared.source.IoSource.{Ghosts}
-use Rattle.vortex_scan.specs.declared.batch.WorkScope.{WorkScope}
+use Rattle.vortex_scan_types.specs.declared.batch.WorkScope.{WorkScope}
 use Rattle.vortex_scan.specs.declared.errors.Visited.{Visited}
 use Rattle.vortex_scan.specs.declared.item.Item.{Item}
 use Rattle.vortex_scan.specs.declared.item.Slot.{Slot}
-use Rattle.vortex_scan.specs.declared.place.RootId.{RootId}
+use Rattle.vortex_scan_types.specs.declared.place.RootId.{RootId}
 use Rattle.vortex_scan.specs.declared.state.Output.{Output}
 use Rattle.vortex_scan.specs.declared.state.Output.TheVariants as output
 use Rattle.vortex_scan.specs.declared.state.State.{State}
 use Rattle.vortex_scan.specs.declared.state.State.TheVariants as state
 use Rattle.vortex_scan.specs.declared.worker.Worker.{Ghosts as Works}
-use Rattle.vortex_scan.specs.Fits.{AreOwn, ItemFits, LiveFits}
+use Rattle.vortex_scan.specs.Fits.{ItemFits, LiveFits}
 use Rattle.vortex_scan.specs.InStep.{IsInStep, StaysInStep, kept_of}
-use Rattle.vortex_scan.specs.RunState.{Live, has_root, is_of_root, live_with, put}
-use Rattle.vortex_scan.specs.Steps.{ClearsLast, Delivers, Follows, Publishes, Retires, Settles, Spawns, Visits, child_of, computed, handed, published}
-use Rattle.vortex_scan.proofs.Tallies.{count_both, count_filter, count_join, count_none, none_sum, one_if, removed_sum, same_sum, set_sum, count_cons}
-use Rattle.vortex_scan.proofs.Fitting.{each_both, left_fits, others}
+use Rattle.vortex_scan.specs.RunState.{Live, has_root, is_of_root, put}
+use Rattle.vortex_scan.specs.Steps.{ClearsLast, Follows, Publishes, Retires, Settles, Spawns, Visits, child_of, computed, published}
+use Rattle.vortex_scan.proofs.Tallies.{count_both, count_filter, count_join, count_none, one_if, removed_sum, same_sum, set_sum, count_cons}
+use Rattle.vortex_scan.proofs.Fitting.{each_both, others}
 use Rattle.vortex_scan.proofs.Places.{each_at, each_remove, each_weaker, get_set, get_set_other}
 use Rattle.vortex_scan.proofs.Rooted.{eqb_same, same_root}
 use Rattle.vortex_scan.proofs.Visiting.{item_set, publish_fits}

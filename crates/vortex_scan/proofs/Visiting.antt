@@ -9,7 +9,7 @@ use Rattle.vortex_io.specs.declared.ids.IoOwnerId.{IoOwnerId}
 use Rattle.vortex_io.specs.declared.request.Fetch.{Fetch}
 use Rattle.vortex_io.specs.declared.request.IoRequest.{IoRequest}
 use Rattle.vortex_io.specs.declared.source.IoSource.{Ghosts}
-use Rattle.vortex_scan.specs.declared.batch.WorkScope.{WorkScope}
+use Rattle.vortex_scan_types.specs.declared.batch.WorkScope.{WorkScope}
 use Rattle.vortex_scan.specs.declared.errors.Visited.{Visited}
 use Rattle.vortex_scan.specs.declared.item.Item.{Item}
 use Rattle.vortex_scan.specs.declared.item.Slot.{Slot}

@@ -11,7 +11,7 @@ use Rattle.vortex_scan.specs.declared.errors.RunError.{RunError}
 use Rattle.vortex_scan.specs.declared.errors.RunError.TheVariants as error
 use Rattle.vortex_scan.specs.declared.item.Item.{Item}
 use Rattle.vortex_scan.specs.declared.item.Slot.{Slot}
-use Rattle.vortex_scan.specs.declared.place.RootId.{RootId}
+use Rattle.vortex_scan_types.specs.declared.place.RootId.{RootId}
 use Rattle.vortex_scan.specs.declared.state.Output.{Output}
 use Rattle.vortex_scan.specs.declared.state.Output.TheVariants as output
 use Rattle.vortex_scan.specs.declared.state.State.{State}
@@ -21,7 +21,7 @@ use Rattle.vortex_scan.specs.Fetching.{numbers}
 use Rattle.vortex_scan.specs.Numbers.{repeats}
 use Rattle.vortex_scan.specs.RunState.{Live, put}
 use Rattle.vortex_scan.specs.Sources.{Polls, Submits, Waits}
-use Rattle.vortex_scan.specs.Steps.{Hands, computed, expects, handed, published}
+use Rattle.vortex_scan.specs.Steps.{Computes, Hands, computed, expects, handed, published}
 
 -- the source of a live root failed as it was given a batch
 pub record SubmitFaults {W S C : Type 0} (source : Ghosts S C) (item : Item W) (batch : List IoRequest) (old new : Live W S) : Type 0 where
@@ -53,7 +53,7 @@ abbrev pub VisitFails : {W S C E : Type 0} → Works W C E → Ghosts S C → St
 VisitFails works source state.Done at item old new why = ⊥
 VisitFails works source state.Waiting at item old new why = (why ≡ error.WaitsForNothing) × (item.asked ≡ [])
 VisitFails {W} {S} {C} {E} works source state.NeedsCompute at item old new why =
-    (answer : Result (Output W) E) × (work : W) × works.computes item.work answer work × FollowFails works source answer (computed item work) (put at (computed item work) old) new why
+    (answer : Result (Output W) E) × (work : W) × Computes works item.work answer work × FollowFails works source answer (computed item work) (put at (computed item work) old) new why
 
 -- a parked item was handed its last result, and still waits
 pub record DeliversInVain {W C E : Type 0} (works : Works W C E) (root : RootId) (completion : Completion C) (old : List (Item W)) : Type 0 where

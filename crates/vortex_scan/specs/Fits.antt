@@ -3,14 +3,17 @@ use Rattle.std.specs.Prelude.{◌≡◌, ◌≢◌, ℕ, ◌<◌, ◌≤◌, tru
 use Rattle.std.specs.List.{AllByRecursion, list_any}
 use Rattle.vortex_io.specs.Source.{is_named}
 use Rattle.vortex_io.specs.declared.ids.IoOwnerId.{IoOwnerId}
+use Rattle.vortex_io.specs.declared.ids.IoRequestId.{IoRequestId}
 use Rattle.vortex_io.specs.declared.request.Fetch.{Fetch}
+use Rattle.vortex_io.specs.declared.request.IoTarget.{IoTarget}
 use Rattle.vortex_io.specs.declared.source.IoSource.{Ghosts}
 use Rattle.vortex_scan.specs.declared.item.Item.{Item}
 use Rattle.vortex_scan.specs.declared.item.Slot.{Slot}
 use Rattle.vortex_scan.specs.Fetching.{numbers}
+use Rattle.vortex_scan.specs.Naming.{IsNamed}
 use Rattle.vortex_scan.specs.Numbers.{repeats}
 use Rattle.vortex_scan.specs.RunState.{Live, RunState, has_root, liveness}
-use Rattle.vortex_scan.specs.declared.place.RootId.{RootId}
+use Rattle.vortex_scan_types.specs.declared.place.RootId.{RootId}
 
 -- each fetch that an item has outstanding is outstanding at the source, by owner and number
 abbrev pub AreKept : List Fetch → List Fetch → Type 0
@@ -56,8 +59,10 @@ pub record RunFits {W S C : Type 0} (source : Ghosts S C) (run : RunState W S) :
   pub peopled : ArePeopled run.live
   pub since : visits_since run.since ≤ 64
 
--- what a run holds: room for all its sources, and until it fails, all that fits
-pub record RunHolds {W S C : Type 0} (source : Ghosts S C) (room : List S) (capacity : ℕ) (run : RunState W S) : Type 0 where
+-- what a run holds: room for all its sources, and until it fails, all that fits; and where its work tells what it owes, each number of a fetch names
+-- one target
+pub record RunHolds {W S C : Type 0} (names : W → IoRequestId → Option IoTarget) (tells : Type 0) (source : Ghosts S C) (room : List S) (capacity : ℕ) (run : RunState W S) : Type 0 where
   pub none : room ≡ []
   pub enough : length run.live.slots ≤ capacity
   pub fits : run.failed ≡ false → RunFits source run
+  pub named : tells → run.failed ≡ false → IsNamed names source run.live

@@ -9,7 +9,7 @@ use Rattle.vortex_scan.specs.declared.errors.RunError.{RunError}
 use Rattle.vortex_scan.specs.declared.errors.RunError.TheVariants as error
 use Rattle.vortex_scan.specs.declared.item.Item.{Item}
 use Rattle.vortex_scan.specs.declared.item.Slot.{Slot}
-use Rattle.vortex_scan.specs.declared.place.RootId.{RootId}
+use Rattle.vortex_scan_types.specs.declared.place.RootId.{RootId}
 use Rattle.vortex_scan.specs.RunState.{Live, is_of_root}
 
 -- how many fetches that pass a test an item has outstanding, where it is of the root

@@ -16,3 +16,7 @@ pub mod Going
 pub mod Fetching
 pub mod Whole
 pub mod InStep
+pub mod Naming
+pub mod Bag
+pub mod InOrder
+pub mod Ended

@@ -1,19 +1,20 @@
 -- The steps of a run. Each leaves all else as it stands.
-use Rattle.std.specs.Prelude.{◌≡◌, ◌≢◌, ℕ, ◌+◌, ◌-◌, ◌^◌, ◌<◌, ◌&&◌, ◌||◌, not, Bool, true, false, cond, Option, None, Some, option_map, Ok, List, [], ◌∷◌, ◌++◌, filter, slice_get, IsTrue}
+use Rattle.std.specs.Prelude.{◌≡◌, ◌≢◌, ℕ, ◌+◌, ◌-◌, ◌^◌, ◌<◌, ◌&&◌, ◌||◌, not, Bool, true, false, cond, Option, None, Some, option_map, Result, Ok, List, [], ◌∷◌, ◌++◌, filter, slice_get, IsTrue}
 use Rattle.std.specs.List.{list_any, remove}
 use Rattle.std.proofs.Math.ListN.{set}
 use Rattle.vortex_io.specs.Source.{Taken, fetches, is_of_kind}
+use Rattle.vortex_io.specs.declared.ids.IoRequestId.{IoRequestId}
 use Rattle.vortex_io.specs.declared.payload.Payload.{Ghosts as Meanings}
 use Rattle.vortex_io.specs.declared.request.Completion.{Completion}
 use Rattle.vortex_io.specs.declared.request.Fetch.{Fetch}
 use Rattle.vortex_io.specs.declared.request.IoRequest.{IoRequest}
 use Rattle.vortex_io.specs.declared.source.IoSource.{Ghosts}
-use Rattle.vortex_scan.specs.declared.batch.WorkScope.{WorkScope}
+use Rattle.vortex_scan_types.specs.declared.batch.WorkScope.{WorkScope}
 use Rattle.vortex_scan.specs.declared.errors.Visited.{Visited}
 use Rattle.vortex_scan.specs.declared.errors.Visited.TheVariants as visited
 use Rattle.vortex_scan.specs.declared.item.Item.{Item}
 use Rattle.vortex_scan.specs.declared.item.Slot.{Slot}
-use Rattle.vortex_scan.specs.declared.place.RootId.{RootId}
+use Rattle.vortex_scan_types.specs.declared.place.RootId.{RootId}
 use Rattle.vortex_scan.specs.declared.state.Output.{Output}
 use Rattle.vortex_scan.specs.declared.state.Output.TheVariants as output
 use Rattle.vortex_scan.specs.declared.state.State.{State}
@@ -99,6 +100,11 @@ Follows works source (output.Batch array) at item old new answer =
 
 -- Visit: an item that is to compute does so once, and any other is settled.
 
+-- one computation, after which each number names the target that it named
+pub record Computes {W C E : Type 0} (works : Works W C E) (old : W) (answer : Result (Output W) E) (new : W) : Type 0 where
+  pub computes : works.computes old answer new
+  pub names : (number : IoRequestId) → works.names new number ≡ works.names old number
+
 -- the item after a computation
 abbrev pub computed : {W : Type 0} → Item W → W → Item W
 computed item work = record item { work = work }
@@ -107,7 +113,7 @@ abbrev pub Visits : {W S C E : Type 0} → Works W C E → Ghosts S C → State 
 Visits works source state.Done at item old new answer = Settles source state.Done at item old new answer
 Visits works source state.Waiting at item old new answer = Settles source state.Waiting at item old new answer
 Visits {W} works source state.NeedsCompute at item old new answer =
-    (out : Output W) × (work : W) × works.computes item.work (Ok out) work × Follows works source out at (computed item work) (put at (computed item work) old) new answer
+    (out : Output W) × (work : W) × Computes works item.work (Ok out) work × Follows works source out at (computed item work) (put at (computed item work) old) new answer
 
 -- a visit of the ready item with the least key, which counts
 pub record VisitsLeast {W S C E : Type 0} (works : Works W C E) (source : Ghosts S C) (old new : RunState W S) (answer : Visited) : Type 0 where
@@ -135,6 +141,7 @@ pub record Hands {W C E : Type 0} (works : Works W C E) (completion : Completion
   pub taken : Taken completion.owner completion.request item.asked left entry
   pub kind : IsTrue (is_of_kind entry.target completion.result)
   pub takes : works.takes item.work completion.request completion.result work
+  pub names : (number : IoRequestId) → works.names work number ≡ works.names item.work number
 
 abbrev pub handed : {W C E : Type 0} → Works W C E → Item W → List Fetch → W → Item W
 handed works item left work = record item { asked = left; ready = item.ready || not (is_waiting (works.state_is work)); work = work }

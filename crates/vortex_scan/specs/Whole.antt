@@ -1,5 +1,5 @@
 -- What holds over a whole call, however many steps it makes.
-use Rattle.std.specs.Prelude.{◌≡◌, ◌≢◌, ℕ, ◌+◌, ◌-◌, ◌*◌, ◌^◌, ◌<◌, ◌≤◌, Bool, true, false, Some, List, [], slice_get}
+use Rattle.std.specs.Prelude.{◌≡◌, ◌≢◌, ℕ, ◌+◌, ◌-◌, ◌*◌, ◌^◌, ◌<◌, ◌≤◌, true, false, Some, List, [], slice_get}
 use Rattle.std.specs.List.{AllByRecursion}
 use Rattle.std.proofs.Math.ListN.{set}
 use Rattle.vortex_buffer.specs.Counts.{Faulted, Rose}
@@ -10,7 +10,7 @@ use Rattle.vortex_scan.specs.declared.errors.RunError.{RunError}
 use Rattle.vortex_scan.specs.declared.errors.RunError.TheVariants as error
 use Rattle.vortex_scan.specs.declared.item.Item.{Item}
 use Rattle.vortex_scan.specs.declared.item.Slot.{Slot}
-use Rattle.vortex_scan.specs.declared.place.RootId.{RootId}
+use Rattle.vortex_scan_types.specs.declared.place.RootId.{RootId}
 use Rattle.vortex_scan.specs.Fits.{visits_since}
 use Rattle.vortex_scan.specs.RunState.{Live, RunState, has_root, liveness}
 

@@ -1,6 +1,8 @@
 -- The work of an item as a planner's or a morsel's own.
-use Rattle.std.specs.Prelude.{◌≡◌, Option, Result, Ok, Err}
+use Rattle.std.specs.Prelude.{◌≡◌, ℕ, List, Option, Result, Ok, Err}
+use Rattle.vortex_io.specs.Source.{Content}
 use Rattle.vortex_io.specs.declared.ids.IoRequestId.{IoRequestId}
+use Rattle.vortex_io.specs.declared.request.IoRequest.{IoRequest}
 use Rattle.vortex_io.specs.declared.request.IoResult.{IoResult}
 use Rattle.vortex_io.specs.declared.request.IoTarget.{IoTarget}
 use Rattle.vortex_scan.specs.declared.state.State.{State}
@@ -55,3 +57,23 @@ WorkTakes planners morsels (work.Morsel old) number outcome (work.Planner new) =
 abbrev pub work_names : {P M : Type 0} → (P → IoRequestId → Option IoTarget) → (M → IoRequestId → Option IoTarget) → Work P M → IoRequestId → Option IoTarget
 work_names planners morsels (work.Planner it) number = planners it number
 work_names planners morsels (work.Morsel it) number = morsels it number
+
+-- whether it is as its kind says
+abbrev pub WorkIs : {P M : Type 0} → (P → Type 0) → (M → Type 0) → Work P M → Type 0
+WorkIs planners morsels (work.Planner it) = planners it
+WorkIs planners morsels (work.Morsel it) = morsels it
+
+-- the fetches that it has published and was not given
+abbrev pub work_asked : {P M : Type 0} → (P → List IoRequest) → (M → List IoRequest) → Work P M → List IoRequest
+work_asked planners morsels (work.Planner it) = planners it
+work_asked planners morsels (work.Morsel it) = morsels it
+
+-- a bound on its computations
+abbrev pub work_bound : {P M : Type 0} → (P → ℕ) → (M → ℕ) → Work P M → ℕ
+work_bound planners morsels (work.Planner it) = planners it
+work_bound planners morsels (work.Morsel it) = morsels it
+
+-- whether a content permits it an error
+abbrev pub WorkPermits : {P M C E : Type 0} → (P → Content C → E → Type 0) → (M → Content C → E → Type 0) → Work P M → Content C → E → Type 0
+WorkPermits planners morsels (work.Planner it) content failure = planners it content failure
+WorkPermits planners morsels (work.Morsel it) content failure = morsels it content failure

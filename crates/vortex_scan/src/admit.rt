@@ -4,14 +4,13 @@ ghost use Rattle.vortex_scan.specs.Calls.{IsRefusedFor};
 ghost use Rattle.vortex_scan.specs.Steps.{root_item};
 ghost use Rattle.vortex_scan.specs.declared.worker.Work.{Work};
 
-use crate::batch::WorkScope;
 use crate::errors::{AdmitError, Refused};
 use crate::fetches::Fetches;
 use crate::item::{Item, Slot};
-use crate::place::{Place, RootId};
 use crate::worker::Work;
 use std::alloc::{AllocError, Global};
 use vortex_io::IoOwnerId;
+use vortex_scan_types::{Place, RootId, WorkScope};
 
 // Why no root may join, if so: the run has failed, or no number is left.
 fn refusal(failed: bool, next_root: u64, next_owner: u64) -> Option<AdmitError>

@@ -13,10 +13,10 @@ ghost use Rattle.vortex_scan.specs.declared.item.Slot.{Slot};
 use crate::deliver::deliver;
 use crate::errors::RunError;
 use crate::item::{Item, Slot};
-use crate::place::RootId;
 use crate::sources;
 use crate::worker::Worker;
 use vortex_io::{IoError, IoSource};
+use vortex_scan_types::RootId;
 
 /// Asks the source of a live root once, and delivers what comes.
 pub fn ask<W: Worker, S: IoSource<Payload = W::Payload>>(

@@ -9,10 +9,10 @@ ghost use Rattle.vortex_scan.specs.declared.item.Item.{Item};
 
 use crate::errors::RunError;
 use crate::item::Item;
-use crate::place::RootId;
 use crate::state::State;
 use crate::worker::Worker;
 use vortex_io::Completion;
+use vortex_scan_types::RootId;
 
 // The place of the live item of a root that expects a completion.
 fn expecting<W, C>(items: &[Item<W>], root: RootId, completion: &Completion<C>) -> Option<usize>

@@ -1,10 +1,9 @@
 // What a run answers, and why it refuses.
-use crate::batch::Batch;
-use crate::place::RootId;
 use std::alloc::AllocError;
 use std::{error, fmt};
 use thiserror::Error;
 use vortex_io::{IoOwnerId, IoRequestId};
+use vortex_scan_types::{Batch, RootId};
 
 /// What taking a run forward came to.
 #[derive(Drop)]

@@ -1,9 +1,8 @@
 // The live items of a run, and its sources.
-use crate::batch::WorkScope;
 use crate::fetches::Fetches;
-use crate::place::{Place, RootId};
 use crate::sources;
 use vortex_io::{IoOwnerId, IoSource};
+use vortex_scan_types::{Place, RootId, WorkScope};
 
 /// A live item. Its key is its path followed by its next child number.
 pub struct Item<W> {

@@ -3,16 +3,15 @@
 
 mod admit;
 mod ask;
-mod batch;
 mod counting;
 mod counts;
 mod deliver;
 mod errors;
 mod fetches;
 mod item;
+mod laws;
 mod least;
 mod morsel;
-mod place;
 mod planner;
 mod publish;
 mod retire;
@@ -24,13 +23,16 @@ mod turn;
 mod visit;
 mod worker;
 
-pub use batch::{Batch, WorkScope};
 pub use errors::{AdmitError, Progress, Refused, RunError, Visited};
 pub use fetches::Fetches;
 pub use item::{Item, Slot};
+pub use laws::{ended_roots_are_silent, told_roots_have_ended};
 pub use morsel::Morsel;
-pub use place::{Place, RootId};
 pub use planner::Planner;
 pub use run::Run;
 pub use state::{MorselOutput, Output, PlannerOutput, State};
+pub use vortex_scan_types::{
+    Batch, Names, NotIncreasing, Place, Projection, RootId, ScanRequest, Selection,
+    StrictSortedBuffer, WorkScope, selections_partition,
+};
 pub use worker::{Work, Worker};

@@ -13,10 +13,10 @@ ghost use Rattle.vortex_scan.specs.declared.item.Slot.{Slot};
 
 use crate::errors::RunError;
 use crate::item::{Item, Slot};
-use crate::place::RootId;
 use crate::sources;
 use std::alloc::AllocError;
 use vortex_io::{IoBatch, IoError, IoOwnerId, IoRequest, IoSource};
+use vortex_scan_types::RootId;
 
 // The item at a place notes a batch's fetches. The answer is false where a number would stand twice.
 fn note<W>(items: &mut Vec<Item<W>>, at: usize, batch: &[IoRequest]) -> Result<bool, AllocError>

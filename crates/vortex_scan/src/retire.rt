@@ -9,9 +9,9 @@ ghost use Rattle.vortex_scan.specs.declared.item.Slot.{Slot};
 
 use crate::errors::Visited;
 use crate::item::{Item, Slot};
-use crate::place::RootId;
 use crate::sources;
 use vortex_io::{IoOwnerId, IoSource};
+use vortex_scan_types::RootId;
 
 // Whether a root has a live item.
 fn has_root<W>(items: &[Item<W>], root: RootId) -> bool

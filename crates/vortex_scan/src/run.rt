@@ -5,23 +5,23 @@ ghost use Rattle.vortex_scan.specs.Steps.{CancelsLive, Delivers, WaitsFor, admit
 ghost use Rattle.vortex_scan.specs.Fails.{DeliverFails, WaitFails};
 ghost use Rattle.vortex_scan.specs.Asking.{AskingFails, AsksOnce, IsAsking, IsFirstAsking, root_at};
 ghost use Rattle.vortex_scan.specs.Going.{Advances};
+ghost use Rattle.vortex_scan.specs.InOrder.{AddsWork, FailsAsPermitted, GivesInOrder, IsInOrder, IsOrderlyRoot, PermitsNoMore, PermitsNoMoreGiven, StaysOrderly, WorksOff};
 ghost use Rattle.vortex_scan.specs.InStep.{LiesByCause, StaysInStep};
 ghost use Rattle.vortex_scan.specs.Sources.{ClearsEach, KeepsEach};
 ghost use Rattle.vortex_scan.specs.Visits.{asked_count};
 ghost use Rattle.vortex_scan.specs.Whole.{AreQuiet, AsksEnough, FailsByCause, IsAtRest, TellsRoots};
+ghost use Rattle.vortex_scan.specs.Bag.{AddsToBag, IsEmptied, KeepsBag, KeepsBagGiven, batches_of, work_owed};
 ghost use Rattle.vortex_scan.specs.Calls.{AdvanceRefuses, IsRefusedFor, PollRefuses, Refuses};
 ghost use Rattle.vortex_scan.specs.declared.worker.Work.{Work};
 
 use crate::admit::admit_root;
 use crate::ask::{ask_once, first_asking, wait_for};
-use crate::batch::WorkScope;
 use crate::counting::count_live;
 use crate::counts::Counts;
 use crate::deliver::deliver;
 use crate::errors::{AdmitError, Progress, Refused, RunError};
 use crate::item::{Item, Slot};
 use crate::morsel::Morsel;
-use crate::place::RootId;
 use crate::planner::Planner;
 use crate::sources;
 use crate::taking::{clear_all, forget};
@@ -30,6 +30,7 @@ use crate::worker::{Work, Worker};
 use std::alloc::Global;
 use std::marker::Model;
 use vortex_io::{Completion, IoOwnerId, IoSource};
+use vortex_scan_types::{RootId, WorkScope};
 
 /// Roots of work over their sources. Contracts see its state.
 pub struct Run<P: Planner, S: IoSource<Payload = P::Payload>> {
@@ -64,12 +65,13 @@ impl<P: Planner, S: IoSource<Payload = P::Payload>> Model for Run<P, S> {
     ghost use Rattle.vortex_scan.specs.declared.worker.Work.{Work};
     ghost use Rattle.vortex_scan.specs.RunState.{RunState, live_with};
     ghost use Rattle.vortex_scan.specs.Fits.{RunHolds};
+    ghost use Rattle.vortex_scan.specs.Works.{work_names};
 
     ghost Value = { RunState (Work P P.Morsel) S };
 
     ghost view = { λ r. record { live = live_with r.items.items r.slots.items r.next_owner; next_root = r.next_root; visits = r.counts.visits; since = r.counts.since; limit = r.counts.limit; failed = r.failed } };
 
-    ghost invariant = { λ r. RunHolds S.IoSource r.room.items (vec_capacity r.room)
+    ghost invariant = { λ r. RunHolds (work_names P.names P.Morsel.names) (P.tells × P.Morsel.tells) S.IoSource r.room.items (vec_capacity r.room)
         (record { live = live_with r.items.items r.slots.items r.next_owner; next_root = r.next_root; visits = r.counts.visits; since = r.counts.since; limit = r.counts.limit; failed = r.failed }) };
 }
 
@@ -116,6 +118,9 @@ impl<P: Planner, S: IoSource<Payload = P::Payload>> Run<P, S> {
         ensures ok { IfOk result (λ id. (id.0 ≡ self.old.next_root) × (self.new ≡ admitted self.old (Work.Planner root) scope io)) }
         ensures err { IfErr result (λ refused. (self.new ≡ self.old) × (refused.planner ≡ root) × (refused.source ≡ io)) }
         ensures in_step { IfOk result (λ _. StaysInStep S.IoSource self.old.live self.new.live) }
+        ensures bag { IfOk result (λ id. AddsToBag (work_owed P.owed P.Morsel.owed) id.0 scope (Work.Planner root) self.old.live self.new.live) }
+        ensures orderly { IfOk result (λ _. IsOrderlyRoot ⟦<Work<P, P::Morsel> as Worker>⟧ (Work.Planner root) → StaysOrderly ⟦<Work<P, P::Morsel> as Worker>⟧ self.old.live self.new.live) }
+        ensures work { IfOk result (λ _. AddsWork ⟦<Work<P, P::Morsel> as Worker>⟧ (Work.Planner root) self.old self.new) }
         ensures run_failed { IsRefusedFor AdmitError.RunFailed result ↔ (self.old.failed ≡ true) }
         ensures ids_exhausted { IsRefusedFor AdmitError.IdsExhausted result ↔ ((self.old.failed ≡ false) × ((self.old.next_root ≡ 2 ^ 64 - 1) ⊎ (self.old.live.next_owner ≡ 2 ^ 64 - 1))) }
     {
@@ -146,6 +151,8 @@ impl<P: Planner, S: IoSource<Payload = P::Payload>> Run<P, S> {
         ensures step { CancelsLive S.IoSource root (slice_get self.old.live.slots root.0) self.old.live self.new.live }
         ensures kept { self.new ≡ record self.old { live = self.new.live } }
         ensures in_step { StaysInStep S.IoSource self.old.live self.new.live }
+        ensures orderly { StaysOrderly ⟦<Work<P, P::Morsel> as Worker>⟧ self.old.live self.new.live }
+        ensures work { WorksOff ⟦<Work<P, P::Morsel> as Worker>⟧ self.old self.new }
     {
         forget(&mut self.items, &mut self.slots, root);
     }
@@ -173,6 +180,11 @@ impl<P: Planner, S: IoSource<Payload = P::Payload>> Run<P, S> {
             × (self.new ≡ record self.old { live = record self.old.live { items = self.new.live.items } })) }
         ensures err { IfErr result (λ error. Refuses self.old self.new error (DeliverFails ⟦<Work<P, P::Morsel> as Worker>⟧ root completion self.old.live.items error)) }
         ensures sources { self.new.live.slots ≡ self.old.live.slots }
+        ensures bag { P.tells → P.Morsel.tells → IfOk result (λ _. KeepsBagGiven P.Payload.means (work_owed P.owed P.Morsel.owed) root completion self.old.live self.new.live) }
+        ensures orderly { IfOk result (λ _. StaysOrderly ⟦<Work<P, P::Morsel> as Worker>⟧ self.old.live self.new.live) }
+        ensures work { IfOk result (λ _. WorksOff ⟦<Work<P, P::Morsel> as Worker>⟧ self.old self.new) }
+        ensures disorder { IfErr result (λ error. IsInOrder ⟦<Work<P, P::Morsel> as Worker>⟧ error self.old) }
+        ensures permitted { P.tells → P.Morsel.tells → IfOk result (λ _. PermitsNoMoreGiven ⟦<Work<P, P::Morsel> as Worker>⟧ P.Payload.means root completion self.old.live self.new.live) }
     {
         if self.failed {
             return Err(RunError::RunFailed);
@@ -200,6 +212,11 @@ impl<P: Planner, S: IoSource<Payload = P::Payload>> Run<P, S> {
         ensures unexpected { IfErr result (λ error. LiesByCause S.IoSource error self.old.live self.new.live.slots) }
         ensures in_step { IfOk result (λ _. StaysInStep S.IoSource self.old.live self.new.live) }
         ensures roots { IfOk result (λ _. liveness self.new.live.slots ≡ liveness self.old.live.slots) }
+        ensures bag { P.tells → P.Morsel.tells → IfOk result (λ _. KeepsBag S.IoSource (work_owed P.owed P.Morsel.owed) [] self.old.live self.new.live) }
+        ensures orderly { IfOk result (λ _. StaysOrderly ⟦<Work<P, P::Morsel> as Worker>⟧ self.old.live self.new.live) }
+        ensures work { IfOk result (λ _. WorksOff ⟦<Work<P, P::Morsel> as Worker>⟧ self.old self.new) }
+        ensures disorder { IfErr result (λ error. IsInOrder ⟦<Work<P, P::Morsel> as Worker>⟧ error self.old) }
+        ensures permitted { P.tells → P.Morsel.tells → IfOk result (λ _. PermitsNoMore ⟦<Work<P, P::Morsel> as Worker>⟧ S.IoSource self.old.live self.new.live) }
     {
         if self.failed {
             return Err(RunError::RunFailed);
@@ -230,6 +247,11 @@ impl<P: Planner, S: IoSource<Payload = P::Payload>> Run<P, S> {
         ensures unexpected { IfErr result (λ error. LiesByCause S.IoSource error self.old.live self.new.live.slots) }
         ensures in_step { IfOk result (λ _. StaysInStep S.IoSource self.old.live self.new.live) }
         ensures roots { IfOk result (λ _. liveness self.new.live.slots ≡ liveness self.old.live.slots) }
+        ensures bag { P.tells → P.Morsel.tells → IfOk result (λ _. KeepsBag S.IoSource (work_owed P.owed P.Morsel.owed) [] self.old.live self.new.live) }
+        ensures orderly { IfOk result (λ _. StaysOrderly ⟦<Work<P, P::Morsel> as Worker>⟧ self.old.live self.new.live) }
+        ensures work { IfOk result (λ _. WorksOff ⟦<Work<P, P::Morsel> as Worker>⟧ self.old self.new) }
+        ensures disorder { IfErr result (λ error. IsInOrder ⟦<Work<P, P::Morsel> as Worker>⟧ error self.old) }
+        ensures permitted { P.tells → P.Morsel.tells → IfOk result (λ _. PermitsNoMore ⟦<Work<P, P::Morsel> as Worker>⟧ S.IoSource self.old.live self.new.live) }
     {
         let Some(root) = first_asking(&self.items) else {
             unreachable!()
@@ -257,6 +279,14 @@ impl<P: Planner, S: IoSource<Payload = P::Payload>> Run<P, S> {
         ensures cause { IfErr result (λ error. FailsByCause S.IoSource error self.old.live.slots self.new.live.slots) }
         ensures unexpected { IfErr result (λ error. LiesByCause S.IoSource error self.old.live self.new.live.slots) }
         ensures in_step { IfOk result (λ _. StaysInStep S.IoSource self.old.live self.new.live) }
+        ensures bag { P.tells → P.Morsel.tells → IfOk result (λ answer. KeepsBag S.IoSource (work_owed P.owed P.Morsel.owed) (batches_of answer) self.old.live self.new.live) }
+        ensures emptied { IfOk result (λ answer. IsEmptied (work_owed P.owed P.Morsel.owed) answer self.new.live) }
+        ensures order { IfOk result (λ answer. GivesInOrder answer self.new.live.items) }
+        ensures orderly { IfOk result (λ _. StaysOrderly ⟦<Work<P, P::Morsel> as Worker>⟧ self.old.live self.new.live) }
+        ensures work { IfOk result (λ _. WorksOff ⟦<Work<P, P::Morsel> as Worker>⟧ self.old self.new) }
+        ensures disorder { IfErr result (λ error. IsInOrder ⟦<Work<P, P::Morsel> as Worker>⟧ error self.old) }
+        ensures permits { P.tells → P.Morsel.tells → IfErr result (λ error. FailsAsPermitted ⟦<Work<P, P::Morsel> as Worker>⟧ S.IoSource error self.old.live self.new.live) }
+        ensures permitted { P.tells → P.Morsel.tells → IfOk result (λ _. PermitsNoMore ⟦<Work<P, P::Morsel> as Worker>⟧ S.IoSource self.old.live self.new.live) }
     {
         if self.failed {
             return Err(RunError::RunFailed);

@@ -1,7 +1,7 @@
 // What planners and morsels show of themselves, and what they answer.
-use crate::batch::WorkScope;
 use vortex_array::RecordBatch;
 use vortex_io::IoBatch;
+use vortex_scan_types::WorkScope;
 
 /// What an item is about to do.
 #[derive(Clone, Copy, Debug, PartialEq, Eq)]

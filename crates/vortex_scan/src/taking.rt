@@ -5,9 +5,9 @@ ghost use Rattle.vortex_scan.specs.Sources.{Clears, ClearsEach};
 ghost use Rattle.vortex_scan.specs.Steps.{CancelsLive};
 
 use crate::item::{Item, Slot};
-use crate::place::RootId;
 use crate::sources;
 use vortex_io::IoSource;
+use vortex_scan_types::RootId;
 
 // The items of a root leave.
 fn drop_items<W: Drop>(items: &mut Vec<Item<W>>, root: RootId)

@@ -3,7 +3,7 @@ ghost use Rattle.std.specs.Prelude.{◌≡◌, ◌≢◌, ℕ, ◌+◌, ◌-◌,
 ghost use Rattle.std.proofs.Math.ListN.{set};
 ghost use Rattle.vortex_scan.specs.Fetching.{numbers};
 ghost use Rattle.vortex_scan.specs.Numbers.{repeats};
-ghost use Rattle.vortex_scan.specs.Steps.{Follows, Settles, Visits, child_of, computed};
+ghost use Rattle.vortex_scan.specs.Steps.{Computes, Follows, Settles, Visits, child_of, computed};
 ghost use Rattle.vortex_scan.specs.Fails.{FollowFails, VisitFails};
 ghost use Rattle.vortex_scan.specs.Sources.{KeepsEach};
 ghost use Rattle.vortex_scan.specs.RunState.{live_with};
@@ -12,7 +12,6 @@ ghost use Rattle.vortex_scan.specs.declared.item.Slot.{Slot};
 ghost use Rattle.vortex_scan.specs.declared.state.State.{State};
 ghost use Rattle.vortex_scan.specs.declared.state.Output.{Output};
 
-use crate::batch::{Batch, WorkScope};
 use crate::errors::{RunError, Visited};
 use crate::fetches::Fetches;
 use crate::item::{Item, Slot};
@@ -23,13 +22,14 @@ use crate::worker::Worker;
 use std::alloc::{AllocError, Global};
 use vortex_array::RecordBatch;
 use vortex_io::{IoBatch, IoOwnerId, IoSource};
+use vortex_scan_types::{Batch, WorkScope};
 
 // The item at a place computes once.
 fn compute<W: Worker>(items: &mut Vec<Item<W>>, at: usize) -> Result<Output<W>, W::Error>
     requires in_range { at < length items.old.items }
     requires needs { (item : Item W) → slice_get items.old.items at ≡ Some item → W.state_is item.work ≡ State.NeedsCompute }
     ensures { (item : Item W) → slice_get items.old.items at ≡ Some item →
-        (work : W) × W.computes item.work result work × (items.new.items ≡ set items.old.items at (computed item work)) }
+        (work : W) × Computes W.Worker item.work result work × (items.new.items ≡ set items.old.items at (computed item work)) }
 {
     let item = &mut items[at];
     item.work.compute()

@@ -1,5 +1,5 @@
 // The work of one item, whether it is a planner or a morsel.
-ghost use Rattle.std.specs.Prelude.{◌≡◌};
+ghost use Rattle.std.specs.Prelude.{◌≡◌, ℕ};
 ghost use Rattle.vortex_scan.specs.Works.{of_morsel, of_planner};
 
 use crate::morsel::Morsel;
@@ -18,8 +18,10 @@ pub enum Work<P, M> {
 
 /// What a run asks of the work of an item. It is a planner's or a morsel's own.
 pub trait Worker: Drop + Sized {
-    ghost use Rattle.std.specs.Prelude.{Option, Result};
+    ghost use Rattle.std.specs.Prelude.{List, Option, Result};
+    ghost use Rattle.vortex_io.specs.Source.{Content};
     ghost use Rattle.vortex_io.specs.declared.ids.IoRequestId.{IoRequestId};
+    ghost use Rattle.vortex_io.specs.declared.request.IoRequest.{IoRequest};
     ghost use Rattle.vortex_io.specs.declared.request.IoResult.{IoResult};
     ghost use Rattle.vortex_io.specs.declared.request.IoTarget.{IoTarget};
     ghost use Rattle.vortex_scan.specs.declared.state.Output.{Output};
@@ -42,6 +44,16 @@ pub trait Worker: Drop + Sized {
 
     // The target that a number names.
     ghost names: { Self → IoRequestId → Option IoTarget };
+
+    // Whether it is orderly, and then the fetches that it has published and was not given, and a bound on its computations.
+    ghost orderly: { Self → Type 0 };
+
+    ghost asked: { Self → List IoRequest };
+
+    ghost work: { Self → ℕ };
+
+    // Which errors a content permits it.
+    ghost permits: { Self → Content Self.Payload → Self.Error → Type 0 };
 
     /// What it is about to do.
     fn state(&self) -> State
@@ -91,7 +103,7 @@ fn from_morsel<P: Drop, M: Drop, E: Drop>(
 }
 
 impl<P: Planner> Worker for Work<P, P::Morsel> {
-    ghost use Rattle.vortex_scan.specs.Works.{WorkComputes, WorkTakes, work_names, work_state};
+    ghost use Rattle.vortex_scan.specs.Works.{WorkComputes, WorkIs, WorkPermits, WorkTakes, work_asked, work_bound, work_names, work_state};
 
     type Payload = P::Payload;
 
@@ -104,6 +116,14 @@ impl<P: Planner> Worker for Work<P, P::Morsel> {
     ghost takes = { WorkTakes P.takes P.Morsel.takes };
 
     ghost names = { work_names P.names P.Morsel.names };
+
+    ghost orderly = { WorkIs P.orderly P.Morsel.orderly };
+
+    ghost asked = { work_asked P.asked P.Morsel.asked };
+
+    ghost work = { work_bound P.work P.Morsel.work };
+
+    ghost permits = { WorkPermits P.permits P.Morsel.permits };
 
     fn state(&self) -> State {
         match self {

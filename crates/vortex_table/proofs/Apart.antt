@@ -6,7 +6,7 @@ use Rattle.std.proofs.lemmas.Bool.{cases_order}
 use Rattle.std.proofs.lemmas.List.{get_or_default}
 use Rattle.vortex_table.specs.declared.describe.SplitDesc.{SplitDesc}
 use Rattle.vortex_table.specs.declared.describe.PartitionDesc.{PartitionDesc}
-use Rattle.vortex_table.specs.declared.scan.batch.WorkScope.{WorkScope}
+use Rattle.vortex_scan_types.specs.declared.batch.WorkScope.{WorkScope}
 use Rattle.vortex_table.specs.Table.{split_scopes, scopes_from}
 use Rattle.vortex_table.specs.Chosen.{Placed, lies_in}
 use Rattle.vortex_table.specs.Laws.{SplitsAreApart}

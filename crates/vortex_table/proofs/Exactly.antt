@@ -3,7 +3,7 @@ use Rattle.std.proofs.Common.{◌≡◌, ◌∙◌, sym, ap, subst, refl, ℕ, z
 use mathlib.Core.Logic.{⊎_elim}
 use Rattle.std.specs.Prelude.{◌⊎◌, filter, flat_map, Any, Option, Some, None, slice_get, option_and_then}
 use Rattle.std.specs.List.{enumerate_from}
-use Rattle.vortex_table.specs.declared.scan.request.ScanRequest.{ScanRequest}
+use Rattle.vortex_scan_types.specs.declared.request.ScanRequest.{ScanRequest}
 use Rattle.vortex_array_types.specs.Cells.{Row}
 use Rattle.vortex_table.specs.Table.{Decoded}
 use Rattle.vortex_table.specs.Chosen.{Placed, chosen, is_chosen, projected, placed_rows, all_rows}

@@ -10,10 +10,10 @@ use Rattle.vortex_array_types.specs.declared.scalar.Value.{Value}
 use Rattle.vortex_array_types.specs.declared.column.ColumnDesc.{ColumnDesc}
 use Rattle.vortex_array_types.specs.Cells.{Row, cell_of, dtype_of}
 use Rattle.vortex_array_types.specs.Typed.{filter_names}
-use Rattle.vortex_table.specs.declared.scan.request.Projection.{Projection}
-use Rattle.vortex_table.specs.declared.scan.request.Projection.TheVariants as projection
-use Rattle.vortex_table.specs.declared.scan.request.ScanRequest.{ScanRequest}
-use Rattle.vortex_table.specs.Valid.{first_unknown, projection_names}
+use Rattle.vortex_scan_types.specs.declared.request.Projection.{Projection}
+use Rattle.vortex_scan_types.specs.declared.request.Projection.TheVariants as projection
+use Rattle.vortex_scan_types.specs.declared.request.ScanRequest.{ScanRequest}
+use Rattle.vortex_scan_types.specs.Valid.{first_unknown, projection_names}
 use Rattle.vortex_table.specs.Table.{Decoded, decoded, row_at}
 use Rattle.vortex_table.specs.Chosen.{Placed, all_rows, chosen, is_chosen, lies_in, projected, projected_names, projected_types, rows_in}
 use Rattle.vortex_table.specs.Answers.{Asked, Given, IsPrefix, asked, columns_of, stands_for}

@@ -11,9 +11,9 @@ use Rattle.vortex_array_types.specs.Cells.{Row}
 use Rattle.vortex_array_types.specs.declared.column.ColumnDesc.{ColumnDesc}
 use Rattle.vortex_table.specs.declared.describe.SplitDesc.{SplitDesc}
 use Rattle.vortex_table.specs.declared.describe.PartitionDesc.{PartitionDesc}
-use Rattle.vortex_table.specs.declared.scan.batch.WorkScope.{WorkScope}
-use Rattle.vortex_table.specs.declared.scan.request.Projection.{Projection}
-use Rattle.vortex_table.specs.declared.scan.request.ScanRequest.{ScanRequest}
+use Rattle.vortex_scan_types.specs.declared.batch.WorkScope.{WorkScope}
+use Rattle.vortex_scan_types.specs.declared.request.Projection.{Projection}
+use Rattle.vortex_scan_types.specs.declared.request.ScanRequest.{ScanRequest}
 use Rattle.vortex_table.specs.Table.{Content, FitsPartition, decoded, partition_rows, row_at, scopes_from, split_rows, split_scopes}
 use Rattle.vortex_table.specs.Chosen.{Placed, chosen, is_chosen, lies_in, projected, rows_in}
 use Rattle.vortex_table.proofs.Rising.{Each, each_any, each_more}

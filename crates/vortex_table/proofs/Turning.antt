@@ -7,8 +7,8 @@ use Rattle.std.proofs.lemmas.List.{length-append, length-take, take_all}
 use Rattle.vortex_array_types.specs.declared.types.DType.{DType}
 use Rattle.vortex_array_types.specs.declared.column.ColumnDesc.{ColumnDesc}
 use Rattle.vortex_table.specs.declared.describe.PartitionDesc.{PartitionDesc}
-use Rattle.vortex_table.specs.declared.scan.batch.WorkScope.{WorkScope}
-use Rattle.vortex_table.specs.declared.scan.request.ScanRequest.{ScanRequest}
+use Rattle.vortex_scan_types.specs.declared.batch.WorkScope.{WorkScope}
+use Rattle.vortex_scan_types.specs.declared.request.ScanRequest.{ScanRequest}
 use Rattle.vortex_table.specs.Table.{Content, FitsPartition, decoded, scopes_from}
 use Rattle.vortex_table.specs.Chosen.{Placed, chosen, lies_in, projected_types, rows_in}
 use Rattle.vortex_table.specs.Answers.{Answers, Asked, Given, IsBefore, IsPrefix, asked, columns_of, count_of, stands_for, within}

@@ -3,7 +3,7 @@ use Rattle.std.proofs.Common.{◌≡◌, ◌∙◌, sym, ap, refl, ℕ, suc, ◌
 use Rattle.std.specs.Prelude.{All, AllPairs, Any, Contains, None, ◌≢◌}
 use Rattle.std.proofs.lemmas.List.{take_all}
 use Rattle.std.proofs.lemmas.List.Sums.{sum_by-cons}
-use Rattle.vortex_table.specs.declared.scan.batch.WorkScope.{WorkScope}
+use Rattle.vortex_scan_types.specs.declared.batch.WorkScope.{WorkScope}
 use Rattle.vortex_table.specs.Chosen.{Placed, lies_in, rows_in}
 use Rattle.vortex_table.specs.Answers.{Answers, Asked, Given, IsPrefix, count_of, stands_for, within}
 use Rattle.vortex_table.specs.Laws.{AreApart, NoRowMissing, WithoutLimit}

@@ -4,8 +4,8 @@ use Rattle.std.specs.List.{enumerate_from}
 use Rattle.vortex_array_types.specs.declared.types.DType.{DType}
 use Rattle.vortex_array_types.specs.declared.column.ColumnDesc.{ColumnDesc}
 use Rattle.vortex_table.specs.declared.describe.PartitionDesc.{PartitionDesc}
-use Rattle.vortex_table.specs.declared.scan.batch.WorkScope.{WorkScope}
-use Rattle.vortex_table.specs.declared.scan.request.ScanRequest.{ScanRequest}
+use Rattle.vortex_scan_types.specs.declared.batch.WorkScope.{WorkScope}
+use Rattle.vortex_scan_types.specs.declared.request.ScanRequest.{ScanRequest}
 use Rattle.vortex_array_types.specs.Row.{Column}
 use Rattle.vortex_table.specs.Table.{Content, decoded, scopes_from}
 use Rattle.vortex_table.specs.Chosen.{Placed, chosen, projected_types, rows_in}

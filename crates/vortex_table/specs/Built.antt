@@ -11,15 +11,15 @@ use Rattle.vortex_array_types.specs.declared.filter.Filter.{Filter, fold-Filter}
 use Rattle.vortex_array_types.specs.declared.filter.Filter.TheOpen.{Filter-F}
 use Rattle.vortex_array_types.specs.Checked.{unknown_in}
 use Rattle.vortex_table.specs.State.{TableState}
-use Rattle.vortex_table.specs.Valid.{first_unknown}
+use Rattle.vortex_scan_types.specs.Valid.{first_unknown}
 use Rattle.vortex_table.specs.declared.errors.ScanError.{ScanError}
 use Rattle.vortex_table.specs.declared.errors.ScanError.TheVariants.{NotBuilt, InvalidRequest, OutOfMemory}
 use Rattle.vortex_table.specs.declared.describe.PartitionDesc.{PartitionDesc}
-use Rattle.vortex_table.specs.declared.scan.request.Projection.{Projection}
-use Rattle.vortex_table.specs.declared.scan.request.Projection.TheVariants.{All, Columns}
-use Rattle.vortex_table.specs.declared.scan.request.ScanRequest.{ScanRequest}
-use Rattle.vortex_table.specs.declared.scan.selection.Selection.{Selection}
-use Rattle.vortex_table.specs.declared.scan.selection.Selection.TheVariants as selection
+use Rattle.vortex_scan_types.specs.declared.request.Projection.{Projection}
+use Rattle.vortex_scan_types.specs.declared.request.Projection.TheVariants.{All, Columns}
+use Rattle.vortex_scan_types.specs.declared.request.ScanRequest.{ScanRequest}
+use Rattle.vortex_scan_types.specs.declared.selection.Selection.{Selection}
+use Rattle.vortex_scan_types.specs.declared.selection.Selection.TheVariants as selection
 
 -- the type of whole numbers of 64 bits without sign and without nulls
 abbrev pub u64_type : DType

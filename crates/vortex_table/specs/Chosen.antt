@@ -3,11 +3,11 @@ use Rattle.std.specs.Prelude.{ℕ, ◌==◌, List, map, filter, flat_map, Bool, 
 use Rattle.std.specs.List.{enumerate_from, filter_map}
 use Rattle.vortex_array_types.specs.declared.types.DType.{DType}
 use Rattle.vortex_array_types.specs.declared.column.ColumnDesc.{ColumnDesc}
-use Rattle.vortex_table.specs.declared.scan.batch.WorkScope.{WorkScope}
-use Rattle.vortex_table.specs.declared.scan.request.Projection.{Projection}
-use Rattle.vortex_table.specs.declared.scan.request.Projection.TheVariants.{All, Columns}
-use Rattle.vortex_table.specs.declared.scan.request.ScanRequest.{ScanRequest}
-use Rattle.vortex_table.specs.Members.{in_selection, in_range, in_some_range}
+use Rattle.vortex_scan_types.specs.declared.batch.WorkScope.{WorkScope}
+use Rattle.vortex_scan_types.specs.declared.request.Projection.{Projection}
+use Rattle.vortex_scan_types.specs.declared.request.Projection.TheVariants.{All, Columns}
+use Rattle.vortex_scan_types.specs.declared.request.ScanRequest.{ScanRequest}
+use Rattle.vortex_scan_types.specs.Members.{in_selection, in_range, in_some_range}
 use Rattle.vortex_array_types.specs.Truth.{keeps}
 use Rattle.vortex_array_types.specs.Cells.{Row, cell_of, dtype_of}
 use Rattle.vortex_table.specs.Table.{Decoded}

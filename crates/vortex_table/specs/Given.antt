@@ -4,8 +4,8 @@ use Rattle.std.specs.List.{range_with_len}
 use Rattle.vortex_array.specs.ColumnOf.{column_of}
 use Rattle.vortex_io.specs.Memory.{MemoryState}
 use Rattle.vortex_table.specs.declared.chunk.Chunk.{Chunk}
-use Rattle.vortex_table.specs.declared.scan.batch.Batch.{Batch}
-use Rattle.vortex_table.specs.declared.scan.request.ScanRequest.{ScanRequest}
+use Rattle.vortex_scan_types.specs.declared.batch.Batch.{Batch}
+use Rattle.vortex_scan_types.specs.declared.request.ScanRequest.{ScanRequest}
 use Rattle.vortex_table.specs.Answers.{Asked, Given, asked}
 use Rattle.vortex_table.specs.ChunkOf.{content_of}
 use Rattle.vortex_table.specs.Chosen.{is_partition_chosen}

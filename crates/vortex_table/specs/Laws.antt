@@ -1,14 +1,12 @@
 -- What the definitions imply.
-use Rattle.std.specs.Prelude.{◌≡◌, ◌<◌, ◌⊎◌, ◌↔◌, ℕ, List, AllPairs, All, Any, Contains, not, true, Option, Some, None, option_and_then, slice_get, length, map, take, flat_map, IsTrue}
+use Rattle.std.specs.Prelude.{◌≡◌, ◌<◌, ◌⊎◌, ◌↔◌, ℕ, List, AllPairs, All, Any, Contains, true, Option, Some, None, option_and_then, slice_get, length, map, take, flat_map, IsTrue}
 use Rattle.std.specs.List.{AllZip}
-use Rattle.vortex_table.specs.declared.scan.selection.Selection.TheVariants.{IncludeByIndex, ExcludeByIndex}
-use Rattle.vortex_table.specs.declared.scan.request.ScanRequest.{ScanRequest}
+use Rattle.vortex_scan_types.specs.declared.request.ScanRequest.{ScanRequest}
 use Rattle.vortex_table.specs.declared.describe.PartitionDesc.{PartitionDesc}
-use Rattle.vortex_table.specs.declared.scan.batch.WorkScope.{WorkScope}
+use Rattle.vortex_scan_types.specs.declared.batch.WorkScope.{WorkScope}
 use Rattle.vortex_array_types.specs.declared.column.ColumnDesc.{ColumnDesc}
 use Rattle.vortex_array_types.specs.Cells.{Row}
-use Rattle.vortex_table.specs.Members.{in_selection}
-use Rattle.vortex_table.specs.Valid.{first_unknown}
+use Rattle.vortex_scan_types.specs.Valid.{first_unknown}
 use Rattle.vortex_table.specs.Table.{Content, Decoded, FitsPartition, scopes_from}
 use Rattle.vortex_table.specs.Chosen.{Placed, chosen, is_chosen, lies_in, rows_in}
 use Rattle.vortex_table.specs.Answers.{Answers, Asked, Given, asked, stands_for, within}
@@ -34,10 +32,6 @@ ChosenExactly = (request : ScanRequest) (table : Decoded) (partition row : ℕ) 
 -- two answers to one ordered question, joined, are one list
 abbrev pub OrderedAnswersAgree : Type 0
 OrderedAnswersAgree = (a : Asked) (b c : List Given) → a.ordered ≡ true → Answers a b → Answers a c → flat_map (stands_for a.rows) b ≡ flat_map (stands_for a.rows) c
-
--- of include and exclude by one list, exactly one holds a place
-abbrev pub SelectionsPartition : Type 0
-SelectionsPartition = (listed : List ℕ) (place : ℕ) → in_selection (ExcludeByIndex listed) place ≡ not (in_selection (IncludeByIndex listed) place)
 
 -- a row lies in one split at most
 abbrev pub AreApart : List WorkScope → Type 0

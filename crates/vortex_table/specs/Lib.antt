@@ -1,6 +1,3 @@
-pub mod Sorted
-pub mod Members
-pub mod Valid
 pub mod Table
 pub mod Chosen
 pub mod Answers

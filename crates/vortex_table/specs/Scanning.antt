@@ -17,8 +17,8 @@ use Rattle.vortex_table.specs.declared.built.Comparison.{Comparison}
 use Rattle.vortex_table.specs.declared.chunk.Chunk.{Chunk}
 use Rattle.vortex_table.specs.declared.describe.PartitionDesc.{PartitionDesc}
 use Rattle.vortex_table.specs.declared.describe.SplitDesc.{SplitDesc}
-use Rattle.vortex_table.specs.declared.scan.batch.Batch.{Batch}
-use Rattle.vortex_table.specs.declared.scan.batch.WorkScope.{WorkScope}
+use Rattle.vortex_scan_types.specs.declared.batch.Batch.{Batch}
+use Rattle.vortex_scan_types.specs.declared.batch.WorkScope.{WorkScope}
 use Rattle.vortex_table.specs.Answers.{Given}
 use Rattle.vortex_table.specs.Built.{u64_type}
 use Rattle.vortex_table.specs.ChunkOf.{chunk_column}

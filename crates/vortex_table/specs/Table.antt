@@ -5,7 +5,7 @@ use Rattle.vortex_array_types.specs.declared.column.ColumnDesc.{ColumnDesc}
 use Rattle.vortex_table.specs.declared.describe.ChunkDesc.{ChunkDesc}
 use Rattle.vortex_table.specs.declared.describe.SplitDesc.{SplitDesc}
 use Rattle.vortex_table.specs.declared.describe.PartitionDesc.{PartitionDesc}
-use Rattle.vortex_table.specs.declared.scan.batch.WorkScope.{WorkScope}
+use Rattle.vortex_scan_types.specs.declared.batch.WorkScope.{WorkScope}
 use Rattle.vortex_array_types.specs.Row.{Column, fits_column}
 use Rattle.vortex_array_types.specs.Cells.{Row}
 

@@ -3,7 +3,7 @@ use Rattle.std.specs.Prelude.{nat_lt, List, length, map, filter}
 use Rattle.std.specs.List.{range_with_len}
 use Rattle.vortex_array_types.specs.declared.types.DType.{DType}
 use Rattle.vortex_array_types.specs.Cells.{Row}
-use Rattle.vortex_table.specs.declared.scan.batch.WorkScope.{WorkScope}
+use Rattle.vortex_scan_types.specs.declared.batch.WorkScope.{WorkScope}
 use Rattle.vortex_table.specs.Table.{row_at}
 use Rattle.vortex_table.specs.Chosen.{Placed, rows_in}
 use Rattle.vortex_table.specs.Answers.{Given, columns_of}

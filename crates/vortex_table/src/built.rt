@@ -7,16 +7,16 @@ ghost use Rattle.vortex_array_types.specs.Truth.{keeps};
 ghost use Rattle.vortex_array_types.specs.declared.scalar.Value.TheVariants.{Int};
 ghost use Rattle.vortex_array_types.specs.declared.scalar.Value.{Value as ArrayValue};
 ghost use Rattle.vortex_table.specs.Built.{HasCause, UnknownIn, is_built as is_built_form, is_one_u64, is_u64 as is_u64_type, is_unlimited as is_unlimited_request, is_comparison, is_whole as is_whole_projection, selects_all as selects_all_places};
-ghost use Rattle.vortex_table.specs.Valid.{first_unknown};
+ghost use Rattle.vortex_scan_types.specs.Valid.{first_unknown};
 ghost use Rattle.vortex_table.specs.Kept.{passes};
 
 use crate::describe::PartitionDesc;
 use crate::errors::ScanError;
-use crate::scan::{Projection, ScanRequest, Selection};
 use std::alloc::Global;
 use vortex_array::{
     ColumnDesc, CompareOperator, DType, Filter, Name, Nullability, Operand, PType, Scalar, Value,
 };
+use vortex_scan_types::{Projection, ScanRequest, Selection};
 
 /// A comparison of the one column with a constant.
 #[derive(Clone, Copy, Debug, PartialEq, Eq)]

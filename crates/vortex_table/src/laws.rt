@@ -1,5 +1,5 @@
 // What the definitions imply, each law the contract of a function that does nothing.
-ghost use Rattle.vortex_table.specs.Laws.{AnswerIsItsRows, ChosenAscend, ChosenExactly, ChosenRowsAreFull, EachQuestionHasAnAnswer, NoRowMissing, OrderedAnswerIsFirstRows, OrderedAnswersAgree, SelectionsPartition, SplitsAreApart, WithoutLimit};
+ghost use Rattle.vortex_table.specs.Laws.{AnswerIsItsRows, ChosenAscend, ChosenExactly, ChosenRowsAreFull, EachQuestionHasAnAnswer, NoRowMissing, OrderedAnswerIsFirstRows, OrderedAnswersAgree, SplitsAreApart, WithoutLimit};
 
 /// The list of chosen rows ascends by place, so no place stands in it twice.
 pub fn chosen_ascend()
@@ -14,11 +14,6 @@ pub fn chosen_exactly()
 /// Two answers to one ordered question, joined, are one list.
 pub fn ordered_answers_agree()
     ensures { OrderedAnswersAgree }
-{}
-
-/// Include and exclude by one list partition the places.
-pub fn selections_partition()
-    ensures { SelectionsPartition }
 {}
 
 /// Without a limit each batch has all chosen rows of its split.

@@ -9,7 +9,6 @@ mod errors;
 mod laws;
 mod numbers;
 mod partition;
-pub mod scan;
 mod table;
 mod table_scan;
 
@@ -19,12 +18,8 @@ pub use errors::{ScanError, TableError};
 pub use laws::{
     answer_is_its_rows, chosen_ascend, chosen_exactly, chosen_rows_are_full,
     each_question_has_an_answer, no_row_missing, ordered_answer_is_first_rows,
-    ordered_answers_agree, selections_partition, splits_are_apart, without_limit,
+    ordered_answers_agree, splits_are_apart, without_limit,
 };
 pub use numbers::{lent_numbers, read_numbers};
-pub use scan::{
-    Batch, Names, NotIncreasing, Place, Projection, RootId, ScanRequest, Selection,
-    StrictSortedBuffer, WorkScope,
-};
 pub use table::{Table, TableRefused};
 pub use table_scan::scan_table;

@@ -1,9 +1,9 @@
 // The scan of one partition of one column: ask for the chunks of its splits, and keep what is kept of each.
-ghost use Rattle.std.specs.Prelude.{◌≡◌, ◌<◌, ◌≤◌, ◌+◌, ◌^◌, All, IfOk, OnErr, OnOk, length, filter, List, None, ℕ, Some, [], ◌∷◌, ◌++◌, map, sum_by};
+ghost use Rattle.std.specs.Prelude.{◌≡◌, ◌<◌, ◌≤◌, ◌+◌, ◌^◌, All, Bool, IfOk, OnErr, OnOk, length, filter, List, None, ℕ, Some, [], ◌∷◌, ◌++◌, map, sum_by};
 ghost use Rattle.vortex_array.specs.ColumnOf.{column_of};
 ghost use Rattle.std.specs.List.{AllZip};
 ghost use Rattle.vortex_io.specs.Memory.{MemoryState};
-ghost use Rattle.vortex_buffer.specs.declared.compare_operator.CompareOperator.TheVariants.{Eq, NotEq, Gt, Gte, Lt, Lte};
+ghost use Rattle.vortex_array_types.specs.Order.{accepts};
 ghost use Rattle.vortex_table.specs.Built.{u64_type};
 ghost use Rattle.vortex_table.specs.ChunkOf.{chunk_column};
 ghost use Rattle.vortex_table.specs.Described.{total_rows};
@@ -17,14 +17,15 @@ use crate::built::Comparison;
 use crate::chunk::Chunk;
 use crate::describe::{PartitionDesc, SplitDesc};
 use crate::numbers::{lent_numbers, read_numbers};
-use crate::scan::{Batch, Place, RootId, WorkScope};
 use std::alloc::{AllocError, Global};
+use std::cmp::Ordering;
 use vortex_array::{Array, CompareOperator, PlainArray, PrimitiveBuffer, RecordBatch, Validity};
 use vortex_buffer::Buffer;
 use vortex_io::{
     Completion, IoBatch, IoError, IoIntent, IoOwnerId, IoRequest, IoRequestId, IoResult, IoSource,
     IoTarget, MemorySource,
 };
+use vortex_scan_types::{Batch, Place, RootId, WorkScope};
 
 // A copy of all numbers.
 fn copied(alloc: Global, values: &[u64]) -> Result<Vec<u64>, AllocError>
@@ -34,84 +35,37 @@ fn copied(alloc: Global, values: &[u64]) -> Result<Vec<u64>, AllocError>
     Ok(all)
 }
 
-// The numbers that are equal to the constant, in order.
-fn equal_to(alloc: Global, constant: u64, values: &[u64]) -> Result<Vec<u64>, AllocError>
-    ensures { IfOk result (λ v. v.items ≡ filter (passes (Some (record { operator = Eq; constant = constant }))) values.now) }
+// The numbers that stand to the constant so that the test holds, in order. The test is the comparison's operator.
+fn kept_by<F: Fn(Ordering) -> bool>(
+    alloc: Global,
+    comparison: Comparison,
+    values: &[u64],
+    test: F,
+) -> Result<Vec<u64>, AllocError>
+    requires callable { F.IsAlwaysCallable test }
+    requires operator { (order : _) (holds : Bool) → F.post test order holds → holds ≡ accepts comparison.operator order }
+    ensures { IfOk result (λ v. v.items ≡ filter (passes (Some comparison)) values.now) }
 {
-    values
-        .iter()
-        .copied()
-        .filter(|x| x.cmp(&constant).is_eq())
-        .collect(alloc)
-}
-
-// The numbers that differ from the constant, in order.
-fn unequal_to(alloc: Global, constant: u64, values: &[u64]) -> Result<Vec<u64>, AllocError>
-    ensures { IfOk result (λ v. v.items ≡ filter (passes (Some (record { operator = NotEq; constant = constant }))) values.now) }
-{
-    values
-        .iter()
-        .copied()
-        .filter(|x| x.cmp(&constant).is_ne())
-        .collect(alloc)
-}
-
-// The numbers that are above the constant, in order.
-fn above(alloc: Global, constant: u64, values: &[u64]) -> Result<Vec<u64>, AllocError>
-    ensures { IfOk result (λ v. v.items ≡ filter (passes (Some (record { operator = Gt; constant = constant }))) values.now) }
-{
-    values
-        .iter()
-        .copied()
-        .filter(|x| x.cmp(&constant).is_gt())
-        .collect(alloc)
-}
-
-// The numbers that are at least the constant, in order.
-fn at_least(alloc: Global, constant: u64, values: &[u64]) -> Result<Vec<u64>, AllocError>
-    ensures { IfOk result (λ v. v.items ≡ filter (passes (Some (record { operator = Gte; constant = constant }))) values.now) }
-{
-    values
-        .iter()
-        .copied()
-        .filter(|x| x.cmp(&constant).is_ge())
-        .collect(alloc)
-}
-
-// The numbers that are below the constant, in order.
-fn below(alloc: Global, constant: u64, values: &[u64]) -> Result<Vec<u64>, AllocError>
-    ensures { IfOk result (λ v. v.items ≡ filter (passes (Some (record { operator = Lt; constant = constant }))) values.now) }
-{
-    values
-        .iter()
-        .copied()
-        .filter(|x| x.cmp(&constant).is_lt())
-        .collect(alloc)
-}
-
-// The numbers that are at most the constant, in order.
-fn at_most(alloc: Global, constant: u64, values: &[u64]) -> Result<Vec<u64>, AllocError>
-    ensures { IfOk result (λ v. v.items ≡ filter (passes (Some (record { operator = Lte; constant = constant }))) values.now) }
-{
-    values
-        .iter()
-        .copied()
-        .filter(|x| x.cmp(&constant).is_le())
-        .collect(alloc)
+    let mut kept = Vec::new(alloc);
+    for value in values {
+        if test(value.cmp(&comparison.constant)) {
+            kept.push(*value)?;
+        }
+    }
+    Ok(kept)
 }
 
 // The numbers that a comparison keeps, in order. The operator is looked at once.
 fn compared(alloc: Global, comparison: Comparison, values: &[u64]) -> Result<Vec<u64>, AllocError>
     ensures { IfOk result (λ v. v.items ≡ filter (passes (Some comparison)) values.now) }
 {
-    let constant = comparison.constant;
     match comparison.operator {
-        CompareOperator::Eq => equal_to(alloc, constant, values),
-        CompareOperator::NotEq => unequal_to(alloc, constant, values),
-        CompareOperator::Gt => above(alloc, constant, values),
-        CompareOperator::Gte => at_least(alloc, constant, values),
-        CompareOperator::Lt => below(alloc, constant, values),
-        CompareOperator::Lte => at_most(alloc, constant, values),
+        CompareOperator::Eq => kept_by(alloc, comparison, values, |order| order.is_eq()),
+        CompareOperator::NotEq => kept_by(alloc, comparison, values, |order| order.is_ne()),
+        CompareOperator::Gt => kept_by(alloc, comparison, values, |order| order.is_gt()),
+        CompareOperator::Gte => kept_by(alloc, comparison, values, |order| order.is_ge()),
+        CompareOperator::Lt => kept_by(alloc, comparison, values, |order| order.is_lt()),
+        CompareOperator::Lte => kept_by(alloc, comparison, values, |order| order.is_le()),
     }
 }
 

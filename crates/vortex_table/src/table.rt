@@ -16,11 +16,11 @@ use crate::chunk::Chunk;
 use crate::describe::{PartitionDesc, SplitDesc};
 use crate::errors::TableError;
 use crate::partition::scan_sources;
-use crate::scan::Batch;
 use std::alloc::{AllocError, Global};
 use std::marker::Model;
 use vortex_array::ColumnDesc;
 use vortex_io::{IoSource, MemorySource};
+use vortex_scan_types::Batch;
 
 /// A refusal, with the sources as they were handed in.
 #[derive(Drop)]

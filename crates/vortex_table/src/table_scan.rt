@@ -8,15 +8,15 @@ ghost use Rattle.vortex_table.specs.Fetching.{journals_after};
 ghost use Rattle.vortex_table.specs.Given.{contents_of, given, question, rank};
 ghost use Rattle.vortex_table.specs.State.{ArrivesInOrder, Stands};
 ghost use Rattle.vortex_table.specs.Table.{FitsPartition};
-ghost use Rattle.vortex_table.specs.Valid.{first_unknown};
+ghost use Rattle.vortex_scan_types.specs.Valid.{first_unknown};
 
 use crate::built::keep_of;
 use crate::chunk::Chunk;
 use crate::errors::ScanError;
-use crate::scan::{Batch, ScanRequest};
 use crate::table::Table;
 use std::alloc::Global;
 use vortex_io::MemorySource;
+use vortex_scan_types::{Batch, ScanRequest};
 
 /// The rows of a table that a request chooses, in batches.
 ///

@@ -34,6 +34,22 @@ fn seven_is_held(alloc: Global) -> bool {
     }
 }
 
+fn items_are_less(less: Buffer<u32>, more: Buffer<u32>) -> bool {
+    let less = Items::from_vec(less.into_vec());
+    let more = Items::from_vec(more.into_vec());
+    less.cmp(&more).is_lt() && less < more && less != more && more == more
+}
+
+fn seven_comes_first(alloc: Global) -> bool {
+    match (
+        Buffer::from_slice(alloc, &[7u32]),
+        Buffer::from_slice(alloc, &[7u32, 0]),
+    ) {
+        (Ok(less), Ok(more)) => items_are_less(less, more),
+        _ => false,
+    }
+}
+
 // The bits that either `HALF` or `OTHER` has.
 const EITHER: [u64; 4] = [
     0xffff_ffff_7f4a_7c15,
@@ -136,6 +152,7 @@ fn bits_are_pushed_and_kept_about_the_ends_of_words(rt: HostRuntime) {
 #[test]
 fn buffers_items_and_bits_hold_their_values(rt: HostRuntime) {
     assert!(rt; seven_is_held(rt.alloc()));
+    assert!(rt; seven_comes_first(rt.alloc()));
     for len in LENGTHS {
         assert!(rt; bits_are_held(rt.alloc(), len), "{len} bits");
     }

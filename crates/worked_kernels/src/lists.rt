@@ -1,7 +1,8 @@
 // Lists of bytes that are pushed, copied, cut out, kept and taken.
 use crate::samples::{ALL, HALF, NONE, mask_of, places_from, set_places};
 use std::alloc::{AllocError, Global};
-use vortex_array_rows::{ByteLists, front_of, places_below, set_places_below};
+use vortex_array_lists::{ByteLists, front_of};
+use vortex_array_rows::{filter_lists, places_below, set_places_below, take_lists, take_lists_or};
 use vortex_buffer::{BitBuffer, Mask};
 
 // So many lists of none to three bytes.
@@ -57,7 +58,7 @@ fn keeps(alloc: Global, lists: &ByteLists, mask: &Mask, words: &[u64; 4]) -> boo
         return false;
     }
     let (places, count) = set_places(words, lists.len());
-    match lists.filter(alloc, mask) {
+    match filter_lists(alloc, lists, mask) {
         Ok(kept) => are_short(&kept, &places[..count.min(200)], lists.len()),
         Err(_) => false,
     }
@@ -95,11 +96,11 @@ fn takes(alloc: Global, lists: &ByteLists, valid: &BitBuffer) -> bool {
     if valid.len() != 3 || !set_places_below(&past, valid, lists.len()) {
         return false;
     }
-    let taken = match lists.take(alloc, &inside) {
+    let taken = match take_lists(alloc, lists, &inside) {
         Ok(taken) => are_short(&taken, &[2, 3, 2], 4),
         Err(_) => false,
     };
-    let or = match lists.take_or(alloc, &past, valid) {
+    let or = match take_lists_or(alloc, lists, &past, valid) {
         Ok(taken) => are_short(&taken, &[3, 9, 1], 4),
         Err(_) => false,
     };

@@ -3,7 +3,7 @@ use crate::cases::{sides, word};
 use std::alloc::Global;
 use std::test::Fail;
 use vortex_query::{RequestError, request_of};
-use vortex_table::ScanRequest;
+use vortex_scan_types::ScanRequest;
 
 fn order_of(request: &ScanRequest) -> &'static str {
     if request.ordered {

@@ -10,7 +10,7 @@ use vortex_array::{
 };
 use vortex_buffer::Buffer;
 use vortex_query::rows_text;
-use vortex_table::{Batch, Place, Projection, RootId, WorkScope};
+use vortex_scan_types::{Batch, Place, Projection, RootId, WorkScope};
 
 // A batch of one column of these numbers.
 fn batch(alloc: Global, numbers: &[u64]) -> Result<Batch, Fail>

@@ -162,17 +162,27 @@ fn told(alloc: Global, results: &[(u64, u64, bool)], expected: &str) -> Result<b
     says(alloc, &mut run, results, expected)
 }
 
+// Whether it says this to one result, and then to the one that it waits for.
+fn told_then(
+    alloc: Global,
+    owner: u64,
+    request: u64,
+    number: bool,
+    expected: &str,
+) -> Result<bool, AllocError> {
+    told(alloc, &[(owner, request, number), (1, 0, false)], expected)
+}
+
 #[test]
 fn a_completion_is_taken_once_by_its_owner_number_and_kind(rt: HostRuntime) -> Result<(), Fail> {
     let cases = [
-        ((1, 0, false), (9, 9, false), "taken protocolfailed"),
-        ((1, 0, false), (1, 0, false), "taken protocolfailed"),
-        ((2, 0, false), (1, 0, false), "protocolfailedfailed"),
-        ((1, 5, false), (1, 0, false), "protocolfailedfailed"),
-        ((1, 0, true), (1, 0, false), "protocolfailedfailed"),
+        (1, 0, false, "taken protocolfailed"),
+        (2, 0, false, "protocolfailedfailed"),
+        (1, 5, false, "protocolfailedfailed"),
+        (1, 0, true, "protocolfailedfailed"),
     ];
-    for (first, second, expected) in cases {
-        assert!(rt; told(rt.alloc(), &[first, second], expected)?);
+    for (owner, request, number, expected) in cases {
+        assert!(rt; told_then(rt.alloc(), owner, request, number, expected)?);
     }
     Ok(())
 }

@@ -12,23 +12,38 @@ fn fails_as(alloc: Global, order: Order, expected: &str) -> Result<bool, AllocEr
 }
 
 #[test]
-fn each_cause_has_its_refusal(rt: HostRuntime) -> Result<(), Fail> {
+fn each_cause_of_a_planner_has_its_refusal(rt: HostRuntime) -> Result<(), Fail> {
     let cases = [
         (Order::Nothing, "empty-io"),
         (Order::Fail, "planner"),
         (Order::Fetch(8), "source"),
-        (Order::Morsel(Kind::Gives(0)), "empty-batch"),
-        (Order::Morsel(Kind::PublishesNothing), "empty-io"),
-        (Order::Morsel(Kind::PublishesTwice), "republished"),
-        (Order::Morsel(Kind::Hints), "waits-for-nothing"),
-        (Order::Morsel(Kind::Waits), "waits-for-nothing"),
-        (Order::Morsel(Kind::Fails), "planner"),
-        (Order::Morsel(Kind::Nothing), "done0 idle"),
         (Order::Fetch(0), "done0 idle"),
         (Order::Continue, "done0 idle"),
     ];
     for (order, expected) in cases {
         assert!(rt; fails_as(rt.alloc(), order, expected)?);
+    }
+    Ok(())
+}
+
+// Whether a root with a morsel of this kind gives this.
+fn morsel_fails_as(alloc: Global, kind: Kind, expected: &str) -> Result<bool, AllocError> {
+    fails_as(alloc, Order::Morsel(kind), expected)
+}
+
+#[test]
+fn each_cause_of_a_morsel_has_its_refusal(rt: HostRuntime) -> Result<(), Fail> {
+    let cases = [
+        (Kind::Gives(0), "empty-batch"),
+        (Kind::PublishesNothing, "empty-io"),
+        (Kind::PublishesTwice, "republished"),
+        (Kind::Hints, "waits-for-nothing"),
+        (Kind::Waits, "waits-for-nothing"),
+        (Kind::Fails, "planner"),
+        (Kind::Nothing, "done0 idle"),
+    ];
+    for (kind, expected) in cases {
+        assert!(rt; morsel_fails_as(rt.alloc(), kind, expected)?);
     }
     Ok(())
 }

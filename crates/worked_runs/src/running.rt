@@ -147,6 +147,14 @@ fn go_on<S: IoSource<Payload = Cell>>(
     }
 }
 
+/// Goes on once and notes what came.
+pub fn note_next(alloc: Global, run: &mut Runs, log: &mut String) -> Result<bool, AllocError> {
+    match run.advance() {
+        Ok(progress) => note(alloc, log, progress),
+        Err(error) => note_refusal(log, &error),
+    }
+}
+
 /// Notes what a run gives until nothing is live or it is refused.
 pub fn end_into<S: IoSource<Payload = Cell>>(
     alloc: Global,

@@ -1,7 +1,7 @@
 use Rattle.std.proofs.Common.{refl, take}
 use Rattle.vortex_table.specs.Turn.{batch_rows}
 use Rattle.vortex_table.specs.Given.{given}
-use Rattle.vortex_table.specs.declared.scan.request.Projection.TheVariants as projections
+use Rattle.vortex_scan_types.specs.declared.request.Projection.TheVariants as projections
 use Rattle.vortex_query.specs.Shown.{rows_of}
 use Rattle.vortex_query.specs.Text.{text}
 use Rattle.vortex_query.proofs.Lines.{more_rows, rows_more}

@@ -1,7 +1,7 @@
 use Rattle.std.proofs.Common.{Some, take}
 use Rattle.vortex_query.specs.Shown.{Holds, rows_of}
 use Rattle.vortex_query.specs.Text.{text}
-use Rattle.vortex_table.specs.declared.scan.request.Projection.TheVariants as projections
+use Rattle.vortex_scan_types.specs.declared.request.Projection.TheVariants as projections
 use Rattle.vortex_query.proofs.batches.write_batches.Given as goal
 
 abbrev pub invariant-loop-batch : goal.invariant-loop-batch

@@ -1,4 +1,4 @@
-use Rattle.std.proofs.Common.{◌≡◌, ◌∙◌, ap, subst, false, true, Some, refl}
+use Rattle.std.proofs.Common.{◌≡◌, ◌∙◌, ap, subst, false, true, refl}
 use Rattle.std.proofs.Math.ListN.{set}
 use Rattle.std.proofs.lemmas.Option.{get_or_from_slice_get, slice_get_read}
 use Rattle.vortex_scan.specs.Fetching.{numbers}

@@ -1,7 +1,4 @@
-use Rattle.std.proofs.Common.{◌≡◌, ◌≢◌, ◌∙◌, ◌<◌, ap, length, [], true, Ok, Some, slice_get, refl, inl, inr}
-use Rattle.std.proofs.Math.ListN.{set}
-use Rattle.std.proofs.lemmas.Option.{get_or_from_slice_get}
-use Rattle.vortex_scan.specs.Steps.{published}
+use Rattle.std.proofs.Common.{◌≢◌, ◌∙◌, ap, length, [], Ok, refl, inl, inr}
 use Rattle.vortex_scan.proofs.Kept.{each_same}
 use Rattle.vortex_scan.proofs.Leaving.{known_root, publishes, read_published, submit_faults}
 use Rattle.vortex_scan.proofs.Outcomes.{if_err, if_ok}

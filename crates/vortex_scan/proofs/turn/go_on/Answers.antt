@@ -1,4 +1,4 @@
-use Rattle.std.proofs.Common.{refl, suc, arith, Some}
+use Rattle.std.proofs.Common.{refl, suc, arith}
 use Rattle.vortex_scan.specs.Going.{state_with}
 use Rattle.vortex_scan.specs.declared.errors.Visited.TheVariants.{Went}
 use Rattle.vortex_scan.proofs.Kept.{each_on, each_same}

@@ -1,4 +1,4 @@
-use Rattle.std.proofs.Common.{◌≡◌, ◌≢◌, ◌∙◌, inl, inr, [], Some, ap}
+use Rattle.std.proofs.Common.{inl, inr}
 use Rattle.vortex_scan.specs.Going.{state_with}
 use Rattle.vortex_scan.proofs.Kept.{each_on}
 use Rattle.vortex_scan.proofs.Outcomes.{if_err, if_ok}

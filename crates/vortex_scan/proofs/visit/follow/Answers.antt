@@ -1,4 +1,4 @@
-use Rattle.std.proofs.Common.{◌≡◌, ◌∙◌, ◌+◌, ◌++◌, ◌∷◌, [], ap, refl}
+use Rattle.std.proofs.Common.{◌∙◌, ◌+◌, ◌++◌, ◌∷◌, [], ap, refl}
 use Rattle.std.proofs.Math.ListN.{set}
 use Rattle.vortex_scan.specs.RunState.{live_with}
 use Rattle.vortex_scan.specs.Steps.{child_of}

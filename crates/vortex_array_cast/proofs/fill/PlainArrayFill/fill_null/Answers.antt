@@ -1,16 +1,22 @@
-use Rattle.std.proofs.Common.{◌∙◌, ◌≡◌, ap, length}
+use Rattle.std.proofs.Common.{◌∙◌, ◌≡◌, ap, length, sym}
 use Rattle.std.specs.Prelude.{IsTrue}
 use Rattle.vortex_array_types.specs.Seen.{value_seen}
+use Rattle.vortex_array_types.specs.declared.types.Nullability.{Nullability}
+use Rattle.vortex_array_types.specs.declared.types.Nullability.TheVariants.{NonNullable}
+use Rattle.vortex_array_types.proofs.SameTypes.{fits-with}
 use Rattle.vortex_array_kinds.specs.Kinds.{plain_column}
 use Rattle.vortex_array_kinds.specs.Validities.{is_as_long, nullability_of, valid_bits}
 use Rattle.vortex_array_cast.specs.Filled.{filled_items}
-use Rattle.vortex_array_cast.proofs.PlainColumns.{filled-plain, fits-same}
+use Rattle.vortex_array_cast.proofs.CastTypes.{same-fits}
+use Rattle.vortex_array_cast.proofs.FilledRows.{filled-plain}
 use Rattle.vortex_array_cast.proofs.fill.PlainArrayFill.fill_null.Goals as goal
 
-pub fill_values-requires-clause-fits : goal.fill_values-requires-clause-fits
-fill_values-requires-clause-fits g c =
+pub filled_values-requires-clause-fits : goal.filled_values-requires-clause-fits
+filled_values-requires-clause-fits g c =
     let a = c.args.self.now in
-    rw c.stored.ensures.value (fits-same g.V.Values.type_of g.V.Values.alike a.values (nullability_of a.validity) c.args.dtype (value_seen c.args.value) c.requires.same_type c.requires.fits)
+    let own : Nullability = nullability_of a.validity in
+    rw (c.stored.ensures.value, g.V.Values.alike a.values own NonNullable, fits-with NonNullable (g.V.Values.type_of a.values own) (value_seen c.args.value))
+    (sym (same-fits (g.V.Values.type_of a.values own) c.args.dtype (value_seen c.args.value) c.requires.same_type) ∙ c.requires.fits)
 
 pub new-requires : goal.new-requires
 new-requires g c = c.of_values.ensures.long _

@@ -1,14 +1,20 @@
-use Rattle.vortex_array_kinds.specs.Kinds.{nullability_of, numbers_of, ptype_of}
-use Rattle.vortex_array_cast.proofs.CastNumbers.{number-rows, numbers-cast, numbers-refused}
+use Rattle.std.proofs.Common.{◌∙◌, refl, sym}
+use Rattle.std.specs.Prelude.{pos}
+use Rattle.std.proofs.lemmas.List.Folds.{list_all-map}
+use Rattle.vortex_array_types.specs.Row.{in_width, value_fits}
+use Rattle.vortex_array_types.specs.declared.scalar.Value.TheVariants as value
+use Rattle.vortex_array_types.specs.declared.types.DType.TheVariants.{Primitive}
+use Rattle.vortex_array_kinds.specs.Kinds.{numbers_of}
+use Rattle.vortex_array_cast.proofs.CastItems.{cast-map}
 use Rattle.vortex_array_cast.proofs.primitives.PrimitiveBufferCastValues.cast_values.Goals as goal
 
-pub returns-in-Ok-clause-ok : goal.returns-in-Ok-clause-ok
-returns-in-Ok-clause-ok c = number-rows c.args.validity.now (numbers_of c.args.self.now) (numbers_of c.in-Ok.numbers) c.requires.long c.in-Ok.ensures.same
+pub returns-clause-ok : goal.returns-clause-ok
+returns-clause-ok c =
+    let made = c.in_ok-made-in-Primitive in
+    let t = Primitive c.in-Primitive.width c.in-Primitive.field-1 in
+    rw c.in-Primitive.is (cast-map (λ n. value.Int n) (in_width c.in-Primitive.width) (value_fits t) (numbers_of c.args.self.now) (numbers_of made.made.0) (pos 0) (λ x. refl) made.ensures.same_length made.ensures.ok)
 
-pub returns-in-Ok-clause-fits : goal.returns-in-Ok-clause-fits
-returns-in-Ok-clause-fits c =
-    rw c.in-Primitive.is (numbers-cast (ptype_of c.args.self.now) (nullability_of c.args.validity.now) c.in-Primitive.width c.args.validity.now (numbers_of c.args.self.now) c.requires.long c.in-Ok.ensures.within)
-
-pub returns-in-Err-clause-err : goal.returns-in-Err-clause-err
-returns-in-Err-clause-err c =
-    rw c.in-Primitive.is (numbers-refused (ptype_of c.args.self.now) (nullability_of c.args.validity.now) c.in-Primitive.width c.args.validity.now (numbers_of c.args.self.now) c.in-Err.error c.requires.long c.in-Err.ensures.err)
+pub returns-clause-fits : goal.returns-clause-fits
+returns-clause-fits c =
+    let t = Primitive c.in-Primitive.width c.in-Primitive.field-1 in
+    rw c.in-Primitive.is (c.in_ok-made-in-Primitive.ensures.fits ∙ sym (list_all-map (value_fits t) (λ n. value.Int n) (numbers_of c.args.self.now)))

@@ -1,16 +1,23 @@
 use Rattle.std.proofs.Common.{◌≡◌, ◌∙◌, refl, inr, ap, Ok}
 use Rattle.vortex_scan.specs.declared.errors.Progress.TheVariants.{Idle}
+use Rattle.vortex_scan.specs.Bag.{work_owed}
 use Rattle.vortex_scan.specs.Going.{state_with}
 use Rattle.vortex_scan.specs.RunState.{live_with}
+use Rattle.vortex_scan.proofs.Bagged.{advance_bag, emptied}
 use Rattle.vortex_scan.proofs.Delivered.{advances_stay}
 use Rattle.vortex_scan.proofs.Expecting.{advance_lies}
 use Rattle.vortex_scan.proofs.Faulting.{advance_cause}
 use Rattle.vortex_scan.proofs.Idling.{fails_with_items, idle_exactly}
 use Rattle.vortex_scan.proofs.Kept.{each_long, each_same}
+use Rattle.vortex_scan.proofs.Owing.{work_owes}
 use Rattle.vortex_scan.proofs.Paying.{advances_enough, enough_same, fails_enough}
 use Rattle.vortex_scan.proofs.Quieting.{at_rest}
 use Rattle.vortex_scan.proofs.Rooted.{advances_peopled, advances_tell}
 use Rattle.vortex_scan.proofs.Turning.{waiting_asks, waiting_of}
+use Rattle.vortex_scan.proofs.WholeOrder.{advance_gives, advance_orderly, failed_in_order}
+use Rattle.vortex_scan.proofs.Ordering.{work_orderly}
+use Rattle.vortex_scan.proofs.Refusing.{advance_in_order}
+use Rattle.vortex_scan.proofs.Permitted.{advance_fails_permitted, advance_permits_less}
 use Rattle.vortex_scan.proofs.run.Run.advance.Goals as goal
 
 pub returns-then-self-clause-sources : goal.returns-then-self-clause-sources
@@ -45,13 +52,15 @@ invariant_of-self g c =
                 (state_with c.go_on.new.items.items c.go_on.new.slots.items c.go_on.new.next_owner c.go_on.new.counts c.self.inside.next_root) c.in-Ok.answer f.live (c.in-Ok.ensures.ok c.self.inside.next_root) f.peopled;
             since = c.in-Ok.ensures.since;
           };
+      named = λ told well. (advance_bag _ g.S.IoSource _ _ (work_owes _ _ _ _ _ _ _ _ _ _ _ (g.met.P.Planner.owes told.0) (g.met.P.Morsel.Morsel.owes told.1)) (state_with c.self.inside.items.items c.self.inside.slots.items c.self.inside.next_owner c.self.inside.counts c.self.inside.next_root)
+          (state_with c.go_on.new.items.items c.go_on.new.slots.items c.go_on.new.next_owner c.go_on.new.counts c.self.inside.next_root) c.in-Ok.answer (inv.fits well).live (inv.named told well) (c.in-Ok.ensures.ok c.self.inside.next_root)).0;
     }
 
 pub invariant_of-self-in-Err : goal.invariant_of-self-in-Err
 invariant_of-self-in-Err g c =
     let inv = c.self.invariant in
     let long = each_long g.S.IoSource c.self.inside.slots.items c.go_on.new.slots.items c.go_on.ensures.sources in
-    record { none = inv.none; enough = rw long inv.enough; fits = λ well. absurd (cc) }
+    record { none = inv.none; enough = rw long inv.enough; fits = λ well. absurd (cc); named = λ told well. absurd (cc) }
 
 pub returns-in-Ok-clause-ok : goal.returns-in-Ok-clause-ok
 returns-in-Ok-clause-ok g c = rw (← c.self.view_is, c.if-self.false) (refl, c.in-Ok.ensures.ok c.self.inside.next_root)
@@ -98,3 +107,44 @@ returns-in-Err-clause-unexpected g c = rw (← c.self.view_is) (advance_lies _ g
 
 pub returns-in-Ok-clause-in_step : goal.returns-in-Ok-clause-in_step
 returns-in-Ok-clause-in_step g c = rw (← c.self.view_is) (advances_stay _ g.S.IoSource _ _ _ c.in-Ok.answer (c.self.invariant.fits c.if-self.false).live (c.in-Ok.ensures.ok c.self.inside.next_root))
+
+pub returns-in-Ok-clause-bag : goal.returns-in-Ok-clause-bag
+returns-in-Ok-clause-bag g c = rw (← c.self.view_is) (λ planners morsels.
+    (advance_bag _ g.S.IoSource _ _ (work_owes _ _ _ _ _ _ _ _ _ _ _ (g.met.P.Planner.owes planners) (g.met.P.Morsel.Morsel.owes morsels)) (state_with c.self.inside.items.items c.self.inside.slots.items c.self.inside.next_owner c.self.inside.counts c.self.inside.next_root)
+    (state_with c.go_on.new.items.items c.go_on.new.slots.items c.go_on.new.next_owner c.go_on.new.counts c.self.inside.next_root) c.in-Ok.answer (c.self.invariant.fits c.if-self.false).live (c.self.invariant.named (planners, morsels) c.if-self.false) (c.in-Ok.ensures.ok c.self.inside.next_root)).1)
+
+pub returns-in-Ok-clause-emptied : goal.returns-in-Ok-clause-emptied
+returns-in-Ok-clause-emptied g c = emptied _ g.S.IoSource _ (work_owed g.P.Planner.owed g.P.Morsel.Morsel.owed) (state_with c.self.inside.items.items c.self.inside.slots.items c.self.inside.next_owner c.self.inside.counts c.self.inside.next_root)
+    (state_with c.go_on.new.items.items c.go_on.new.slots.items c.go_on.new.next_owner c.go_on.new.counts c.self.inside.next_root) c.in-Ok.answer (c.in-Ok.ensures.ok c.self.inside.next_root)
+
+pub returns-in-Ok-clause-orderly : goal.returns-in-Ok-clause-orderly
+returns-in-Ok-clause-orderly g c = rw (← c.self.view_is) ((advance_orderly _ g.S.IoSource _ (work_orderly _ _ _ _ _ _ _ _ _ _ _ _ _ _ _ _ _ _ _ g.met.P.Planner.is_orderly g.met.P.Morsel.Morsel.is_orderly) (state_with c.self.inside.items.items c.self.inside.slots.items c.self.inside.next_owner c.self.inside.counts c.self.inside.next_root)
+    (state_with c.go_on.new.items.items c.go_on.new.slots.items c.go_on.new.next_owner c.go_on.new.counts c.self.inside.next_root) c.in-Ok.answer (c.self.invariant.fits c.if-self.false).live (c.in-Ok.ensures.ok c.self.inside.next_root)).0)
+
+pub returns-in-Ok-clause-work : goal.returns-in-Ok-clause-work
+returns-in-Ok-clause-work g c = rw (← c.self.view_is) ((advance_orderly _ g.S.IoSource _ (work_orderly _ _ _ _ _ _ _ _ _ _ _ _ _ _ _ _ _ _ _ g.met.P.Planner.is_orderly g.met.P.Morsel.Morsel.is_orderly) (state_with c.self.inside.items.items c.self.inside.slots.items c.self.inside.next_owner c.self.inside.counts c.self.inside.next_root)
+    (state_with c.go_on.new.items.items c.go_on.new.slots.items c.go_on.new.next_owner c.go_on.new.counts c.self.inside.next_root) c.in-Ok.answer (c.self.invariant.fits c.if-self.false).live (c.in-Ok.ensures.ok c.self.inside.next_root)).1)
+
+pub returns-in-Ok-clause-order : goal.returns-in-Ok-clause-order
+returns-in-Ok-clause-order g c = advance_gives _ g.S.IoSource _ (state_with c.self.inside.items.items c.self.inside.slots.items c.self.inside.next_owner c.self.inside.counts c.self.inside.next_root)
+    (state_with c.go_on.new.items.items c.go_on.new.slots.items c.go_on.new.next_owner c.go_on.new.counts c.self.inside.next_root) c.in-Ok.answer (c.in-Ok.ensures.ok c.self.inside.next_root)
+
+pub returns-then-self-clause-disorder : goal.returns-then-self-clause-disorder
+returns-then-self-clause-disorder g c = λ orderly. failed_in_order _ _ _ refl
+
+pub returns-in-Err-clause-disorder : goal.returns-in-Err-clause-disorder
+returns-in-Err-clause-disorder g c = rw (← c.self.view_is, c.if-self.false) (advance_in_order _ g.S.IoSource _ (work_orderly _ _ _ _ _ _ _ _ _ _ _ _ _ _ _ _ _ _ _ g.met.P.Planner.is_orderly g.met.P.Morsel.Morsel.is_orderly) (state_with c.self.inside.items.items c.self.inside.slots.items c.self.inside.next_owner c.self.inside.counts c.self.inside.next_root)
+    (state_with c.go_on.new.items.items c.go_on.new.slots.items c.go_on.new.next_owner c.go_on.new.counts c.self.inside.next_root) c.in-Err.error (c.self.invariant.fits c.if-self.false).live (c.in-Err.ensures.err c.self.inside.next_root))
+
+pub returns-then-self-clause-permits : goal.returns-then-self-clause-permits
+returns-then-self-clause-permits g c = λ planners morsels root failure content e. absurd (cc)
+
+pub returns-in-Err-clause-permits : goal.returns-in-Err-clause-permits
+returns-in-Err-clause-permits g c = rw (← c.self.view_is) (λ planners morsels.
+    advance_fails_permitted _ g.S.IoSource _ (work_orderly _ _ _ _ _ _ _ _ _ _ _ _ _ _ _ _ _ _ _ g.met.P.Planner.is_orderly g.met.P.Morsel.Morsel.is_orderly) _ (work_owes _ _ _ _ _ _ _ _ _ _ _ (g.met.P.Planner.owes planners) (g.met.P.Morsel.Morsel.owes morsels)) (state_with c.self.inside.items.items c.self.inside.slots.items c.self.inside.next_owner c.self.inside.counts c.self.inside.next_root)
+    (state_with c.go_on.new.items.items c.go_on.new.slots.items c.go_on.new.next_owner c.go_on.new.counts c.self.inside.next_root) c.in-Err.error (c.self.invariant.fits c.if-self.false).live (c.self.invariant.named (planners, morsels) c.if-self.false) (c.in-Err.ensures.err c.self.inside.next_root))
+
+pub returns-in-Ok-clause-permitted : goal.returns-in-Ok-clause-permitted
+returns-in-Ok-clause-permitted g c = rw (← c.self.view_is) (λ planners morsels.
+    advance_permits_less _ g.S.IoSource _ (work_orderly _ _ _ _ _ _ _ _ _ _ _ _ _ _ _ _ _ _ _ g.met.P.Planner.is_orderly g.met.P.Morsel.Morsel.is_orderly) _ (work_owes _ _ _ _ _ _ _ _ _ _ _ (g.met.P.Planner.owes planners) (g.met.P.Morsel.Morsel.owes morsels)) (state_with c.self.inside.items.items c.self.inside.slots.items c.self.inside.next_owner c.self.inside.counts c.self.inside.next_root)
+    (state_with c.go_on.new.items.items c.go_on.new.slots.items c.go_on.new.next_owner c.go_on.new.counts c.self.inside.next_root) c.in-Ok.answer (c.self.invariant.fits c.if-self.false).live (c.self.invariant.named (planners, morsels) c.if-self.false) (c.in-Ok.ensures.ok c.self.inside.next_root))

@@ -1,12 +1,19 @@
 use Rattle.std.proofs.Common.{◌≢◌, ◌∙◌, refl, inr, length, ap}
 use Rattle.vortex_scan.specs.RunState.{live_count, live_with}
 use Rattle.vortex_scan.proofs.Asked.{asks_once_fits}
+use Rattle.vortex_scan.proofs.Bagged.{once_bag}
 use Rattle.vortex_scan.proofs.Delivered.{asks_once_stays}
 use Rattle.vortex_scan.proofs.Expecting.{asking_lies}
 use Rattle.vortex_scan.proofs.Faulting.{asking_cause}
 use Rattle.vortex_scan.proofs.Kept.{each_long, each_same}
+use Rattle.vortex_scan.proofs.Owing.{work_owes}
 use Rattle.vortex_scan.proofs.Polling.{once_are_quiet, once_fewer, once_items}
 use Rattle.vortex_scan.proofs.Rooted.{asks_once_same, peopled_same}
+use Rattle.vortex_scan.proofs.WholeOrder.{failed_in_order, once_orderly, rootless_in_order}
+use Rattle.vortex_scan.proofs.Ordering.{work_orderly}
+use Rattle.vortex_scan.specs.Going.{state_with}
+use Rattle.vortex_scan.proofs.Refusing.{asking_in_order}
+use Rattle.vortex_scan.proofs.Permitted.{once_permits_less}
 use Rattle.vortex_scan.proofs.run.Run.poll_completion.Goals as goal
 
 pub returns-then-self-clause-sources : goal.returns-then-self-clause-sources
@@ -31,13 +38,15 @@ invariant_of-self g c =
                 (asks_once_same _ g.S.IoSource _ (length c.self.inside.slots.items) (live_with c.self.inside.items.items c.self.inside.slots.items c.self.inside.next_owner) (live_with c.ask_once.new.items.items c.ask_once.new.slots.items c.self.inside.next_owner) c.in-Ok.came (c.in-Ok.ensures.ok c.self.inside.next_owner)) f.peopled;
             since = f.since;
           };
+      named = λ told well. (once_bag _ g.S.IoSource _ _ (work_owes _ _ _ _ _ _ _ _ _ _ _ (g.met.P.Planner.owes told.0) (g.met.P.Morsel.Morsel.owes told.1)) (length c.self.inside.slots.items) (live_with c.self.inside.items.items c.self.inside.slots.items c.self.inside.next_owner)
+          (live_with c.ask_once.new.items.items c.ask_once.new.slots.items c.self.inside.next_owner) c.in-Ok.came (inv.fits well).live (inv.named told well) (c.in-Ok.ensures.ok c.self.inside.next_owner)).0;
     }
 
 pub invariant_of-self-in-Err : goal.invariant_of-self-in-Err
 invariant_of-self-in-Err g c =
     let inv = c.self.invariant in
     let long = each_long g.S.IoSource c.self.inside.slots.items c.ask_once.new.slots.items c.ask_once.ensures.sources in
-    record { none = inv.none; enough = rw long inv.enough; fits = λ well. absurd (cc) }
+    record { none = inv.none; enough = rw long inv.enough; fits = λ well. absurd (cc); named = λ told well. absurd (cc) }
 
 pub returns-in-Ok-clause-ok : goal.returns-in-Ok-clause-ok
 returns-in-Ok-clause-ok g c =
@@ -83,3 +92,31 @@ returns-in-Err-clause-unexpected g c = rw (← c.self.view_is) (asking_lies _ g.
 pub returns-in-Ok-clause-in_step : goal.returns-in-Ok-clause-in_step
 returns-in-Ok-clause-in_step g c =
     rw (← c.self.view_is) (asks_once_stays _ g.S.IoSource _ (length c.self.inside.slots.items) (live_with c.self.inside.items.items c.self.inside.slots.items c.self.inside.next_owner) (live_with c.ask_once.new.items.items c.ask_once.new.slots.items c.self.inside.next_owner) c.in-Ok.came (c.self.invariant.fits c.if-self.false).live (c.in-Ok.ensures.ok c.self.inside.next_owner))
+
+pub returns-in-Ok-clause-bag : goal.returns-in-Ok-clause-bag
+returns-in-Ok-clause-bag g c = rw (← c.self.view_is) (λ planners morsels.
+    (once_bag _ g.S.IoSource _ _ (work_owes _ _ _ _ _ _ _ _ _ _ _ (g.met.P.Planner.owes planners) (g.met.P.Morsel.Morsel.owes morsels)) (length c.self.inside.slots.items) (live_with c.self.inside.items.items c.self.inside.slots.items c.self.inside.next_owner)
+    (live_with c.ask_once.new.items.items c.ask_once.new.slots.items c.self.inside.next_owner) c.in-Ok.came (c.self.invariant.fits c.if-self.false).live (c.self.invariant.named (planners, morsels) c.if-self.false) (c.in-Ok.ensures.ok c.self.inside.next_owner)).1)
+
+pub returns-in-Ok-clause-orderly : goal.returns-in-Ok-clause-orderly
+returns-in-Ok-clause-orderly g c = rw (← c.self.view_is) ((once_orderly _ g.S.IoSource _ (work_orderly _ _ _ _ _ _ _ _ _ _ _ _ _ _ _ _ _ _ _ g.met.P.Planner.is_orderly g.met.P.Morsel.Morsel.is_orderly) (length c.self.inside.slots.items) (state_with c.self.inside.items.items c.self.inside.slots.items c.self.inside.next_owner c.self.inside.counts c.self.inside.next_root)
+    (live_with c.ask_once.new.items.items c.ask_once.new.slots.items c.self.inside.next_owner) c.in-Ok.came (c.self.invariant.fits c.if-self.false).live (c.in-Ok.ensures.ok c.self.inside.next_owner)).0)
+
+pub returns-in-Ok-clause-work : goal.returns-in-Ok-clause-work
+returns-in-Ok-clause-work g c = rw (← c.self.view_is) ((once_orderly _ g.S.IoSource _ (work_orderly _ _ _ _ _ _ _ _ _ _ _ _ _ _ _ _ _ _ _ g.met.P.Planner.is_orderly g.met.P.Morsel.Morsel.is_orderly) (length c.self.inside.slots.items) (state_with c.self.inside.items.items c.self.inside.slots.items c.self.inside.next_owner c.self.inside.counts c.self.inside.next_root)
+    (live_with c.ask_once.new.items.items c.ask_once.new.slots.items c.self.inside.next_owner) c.in-Ok.came (c.self.invariant.fits c.if-self.false).live (c.in-Ok.ensures.ok c.self.inside.next_owner)).1)
+
+pub returns-then-self-clause-disorder : goal.returns-then-self-clause-disorder
+returns-then-self-clause-disorder g c = λ orderly. failed_in_order _ _ _ refl
+
+pub returns-then-count_live-eq0-clause-disorder : goal.returns-then-count_live-eq0-clause-disorder
+returns-then-count_live-eq0-clause-disorder g c = λ orderly. rootless_in_order _ _ _ refl
+
+pub returns-in-Err-clause-disorder : goal.returns-in-Err-clause-disorder
+returns-in-Err-clause-disorder g c = rw (← c.self.view_is, c.if-self.false) (asking_in_order _ g.S.IoSource _ (work_orderly _ _ _ _ _ _ _ _ _ _ _ _ _ _ _ _ _ _ _ g.met.P.Planner.is_orderly g.met.P.Morsel.Morsel.is_orderly) (state_with c.self.inside.items.items c.self.inside.slots.items c.self.inside.next_owner c.self.inside.counts c.self.inside.next_root)
+    (live_with c.ask_once.new.items.items c.ask_once.new.slots.items c.self.inside.next_owner) c.in-Err.error (c.self.invariant.fits c.if-self.false).live (c.in-Err.ensures.err c.self.inside.next_owner))
+
+pub returns-in-Ok-clause-permitted : goal.returns-in-Ok-clause-permitted
+returns-in-Ok-clause-permitted g c = rw (← c.self.view_is) (λ planners morsels.
+    once_permits_less _ g.S.IoSource _ (work_orderly _ _ _ _ _ _ _ _ _ _ _ _ _ _ _ _ _ _ _ g.met.P.Planner.is_orderly g.met.P.Morsel.Morsel.is_orderly) _ (work_owes _ _ _ _ _ _ _ _ _ _ _ (g.met.P.Planner.owes planners) (g.met.P.Morsel.Morsel.owes morsels)) (length c.self.inside.slots.items) (live_with c.self.inside.items.items c.self.inside.slots.items c.self.inside.next_owner)
+    (live_with c.ask_once.new.items.items c.ask_once.new.slots.items c.self.inside.next_owner) c.in-Ok.came (c.self.invariant.fits c.if-self.false).live (c.self.invariant.named (planners, morsels) c.if-self.false) (c.in-Ok.ensures.ok c.self.inside.next_owner))

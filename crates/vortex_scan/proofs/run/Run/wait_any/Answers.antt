@@ -2,11 +2,19 @@ use Rattle.std.proofs.Common.{◌≡◌, ◌∙◌, refl, Some, slice_get}
 use Rattle.std.proofs.lemmas.Option.{slice_get_within}
 use Rattle.vortex_scan.specs.RunState.{live_with}
 use Rattle.vortex_scan.proofs.Asked.{asking_live, some_outstanding, waits_fits}
+use Rattle.vortex_scan.proofs.Bagged.{wait_bag}
 use Rattle.vortex_scan.proofs.Delivered.{waits_stays}
 use Rattle.vortex_scan.proofs.Expecting.{wait_lies}
 use Rattle.vortex_scan.proofs.Faulting.{wait_cause}
 use Rattle.vortex_scan.proofs.Kept.{each_long}
+use Rattle.vortex_scan.proofs.Named.{waits_named}
+use Rattle.vortex_scan.proofs.Owing.{work_owes}
 use Rattle.vortex_scan.proofs.Rooted.{peopled_same, waits_same}
+use Rattle.vortex_scan.proofs.WholeOrder.{wait_orderly}
+use Rattle.vortex_scan.proofs.Ordering.{work_orderly}
+use Rattle.vortex_scan.specs.Going.{state_with}
+use Rattle.vortex_scan.proofs.Refusing.{wait_in_order}
+use Rattle.vortex_scan.proofs.Permitted.{wait_permits_less}
 use Rattle.vortex_scan.proofs.run.Run.wait_any.Goals as goal
 
 pub unreachable-requires : goal.unreachable-requires
@@ -52,13 +60,14 @@ invariant_of-self g c =
                 (waits_same _ g.S.IoSource _ c.in-Some.root (live_with c.self.inside.items.items c.self.inside.slots.items c.self.inside.next_owner) (live_with c.wait_for.new.items.items c.wait_for.new.slots.items c.self.inside.next_owner) (c.in-Ok.ensures.ok c.self.inside.next_owner)) f.peopled;
             since = f.since;
           };
+      named = λ told well. waits_named _ g.S.IoSource _ c.in-Some.root (live_with c.self.inside.items.items c.self.inside.slots.items c.self.inside.next_owner) (live_with c.wait_for.new.items.items c.wait_for.new.slots.items c.self.inside.next_owner) (inv.named told well) (c.in-Ok.ensures.ok c.self.inside.next_owner);
     }
 
 pub invariant_of-self-in-Err : goal.invariant_of-self-in-Err
 invariant_of-self-in-Err g c =
     let inv = c.self.invariant in
     let long = each_long g.S.IoSource c.self.inside.slots.items c.wait_for.new.slots.items c.wait_for.ensures.sources in
-    record { none = inv.none; enough = rw long inv.enough; fits = λ well. absurd (cc) }
+    record { none = inv.none; enough = rw long inv.enough; fits = λ well. absurd (cc); named = λ told well. absurd (cc) }
 
 pub returns-in-Ok-clause-ok : goal.returns-in-Ok-clause-ok
 returns-in-Ok-clause-ok g c =
@@ -83,3 +92,36 @@ pub returns-in-Ok-clause-in_step : goal.returns-in-Ok-clause-in_step
 returns-in-Ok-clause-in_step g c =
     let fits = (c.self.invariant.fits (rw (← c.self.view_is) at c.requires.well)).live in
     rw (← c.self.view_is) (waits_stays _ g.S.IoSource _ c.in-Some.root (live_with c.self.inside.items.items c.self.inside.slots.items c.self.inside.next_owner) (live_with c.wait_for.new.items.items c.wait_for.new.slots.items c.self.inside.next_owner) fits (c.in-Ok.ensures.ok c.self.inside.next_owner))
+
+pub returns-in-Ok-clause-bag : goal.returns-in-Ok-clause-bag
+returns-in-Ok-clause-bag g c =
+    let well = rw (← c.self.view_is) at c.requires.well in
+    rw (← c.self.view_is) (λ planners morsels.
+    wait_bag _ g.S.IoSource _ _ (work_owes _ _ _ _ _ _ _ _ _ _ _ (g.met.P.Planner.owes planners) (g.met.P.Morsel.Morsel.owes morsels)) c.in-Some.root (live_with c.self.inside.items.items c.self.inside.slots.items c.self.inside.next_owner)
+    (live_with c.wait_for.new.items.items c.wait_for.new.slots.items c.self.inside.next_owner) (c.self.invariant.fits well).live (c.self.invariant.named (planners, morsels) well) (c.in-Ok.ensures.ok c.self.inside.next_owner))
+
+pub returns-in-Ok-clause-orderly : goal.returns-in-Ok-clause-orderly
+returns-in-Ok-clause-orderly g c =
+    let fits = (c.self.invariant.fits (rw (← c.self.view_is) at c.requires.well)).live in
+    rw (← c.self.view_is) ((wait_orderly _ g.S.IoSource _ (work_orderly _ _ _ _ _ _ _ _ _ _ _ _ _ _ _ _ _ _ _ g.met.P.Planner.is_orderly g.met.P.Morsel.Morsel.is_orderly) c.in-Some.root (state_with c.self.inside.items.items c.self.inside.slots.items c.self.inside.next_owner c.self.inside.counts c.self.inside.next_root)
+    (live_with c.wait_for.new.items.items c.wait_for.new.slots.items c.self.inside.next_owner) fits (c.in-Ok.ensures.ok c.self.inside.next_owner)).0)
+
+pub returns-in-Ok-clause-work : goal.returns-in-Ok-clause-work
+returns-in-Ok-clause-work g c =
+    let fits = (c.self.invariant.fits (rw (← c.self.view_is) at c.requires.well)).live in
+    rw (← c.self.view_is) ((wait_orderly _ g.S.IoSource _ (work_orderly _ _ _ _ _ _ _ _ _ _ _ _ _ _ _ _ _ _ _ g.met.P.Planner.is_orderly g.met.P.Morsel.Morsel.is_orderly) c.in-Some.root (state_with c.self.inside.items.items c.self.inside.slots.items c.self.inside.next_owner c.self.inside.counts c.self.inside.next_root)
+    (live_with c.wait_for.new.items.items c.wait_for.new.slots.items c.self.inside.next_owner) fits (c.in-Ok.ensures.ok c.self.inside.next_owner)).1)
+
+pub returns-in-Err-clause-disorder : goal.returns-in-Err-clause-disorder
+returns-in-Err-clause-disorder g c =
+    let well = rw (← c.self.view_is) at c.requires.well in
+    let fits = (c.self.invariant.fits well).live in
+    rw (← c.self.view_is, well) (wait_in_order _ g.S.IoSource _ (work_orderly _ _ _ _ _ _ _ _ _ _ _ _ _ _ _ _ _ _ _ g.met.P.Planner.is_orderly g.met.P.Morsel.Morsel.is_orderly) c.in-Some.root (state_with c.self.inside.items.items c.self.inside.slots.items c.self.inside.next_owner c.self.inside.counts c.self.inside.next_root)
+    (live_with c.wait_for.new.items.items c.wait_for.new.slots.items c.self.inside.next_owner) c.in-Err.error fits (c.in-Err.ensures.err c.self.inside.next_owner))
+
+pub returns-in-Ok-clause-permitted : goal.returns-in-Ok-clause-permitted
+returns-in-Ok-clause-permitted g c =
+    let well = rw (← c.self.view_is) at c.requires.well in
+    rw (← c.self.view_is) (λ planners morsels.
+    wait_permits_less _ g.S.IoSource _ (work_orderly _ _ _ _ _ _ _ _ _ _ _ _ _ _ _ _ _ _ _ g.met.P.Planner.is_orderly g.met.P.Morsel.Morsel.is_orderly) _ (work_owes _ _ _ _ _ _ _ _ _ _ _ (g.met.P.Planner.owes planners) (g.met.P.Morsel.Morsel.owes morsels)) c.in-Some.root (live_with c.self.inside.items.items c.self.inside.slots.items c.self.inside.next_owner)
+    (live_with c.wait_for.new.items.items c.wait_for.new.slots.items c.self.inside.next_owner) (c.self.invariant.fits well).live (c.self.invariant.named (planners, morsels) well) (c.in-Ok.ensures.ok c.self.inside.next_owner))

@@ -1,0 +1,6 @@
+use Rattle.std.proofs.Common.{arith, length, ap}
+use Rattle.vortex_array_lists.proofs.Pieces.{length-pieces}
+use Rattle.vortex_array_lists.proofs.byte_lists.ByteLists.front.Goals as goal
+
+pub piece_front-requires-clause-inside : goal.piece_front-requires-clause-inside
+piece_front-requires-clause-inside c = omega (arith, c.requires, length-pieces c.self.inside.bytes.items 0 c.self.inside.ends.items, ap length c.self.view_is, ap length c.deref-2.ensures.value)

@@ -1,6 +1,0 @@
-use Rattle.std.proofs.Common.{arith, length, ap}
-use Rattle.vortex_array_rows.proofs.Pieces.{length-pieces}
-use Rattle.vortex_array_rows.proofs.byte_lists.ByteLists.get.Goals as goal
-
-pub piece-requires-clause-inside : goal.piece-requires-clause-inside
-piece-requires-clause-inside c = omega (arith, c.requires, length-pieces c.self.inside.bytes.items 0 c.self.inside.ends.items, ap length c.self.view_is, ap length c.deref-2.ensures.value)

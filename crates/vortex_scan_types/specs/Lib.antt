@@ -1,0 +1,4 @@
+pub mod Sorted
+pub mod Members
+pub mod Valid
+pub mod Laws

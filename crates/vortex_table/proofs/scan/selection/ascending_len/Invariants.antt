@@ -1,5 +1,0 @@
-use Rattle.vortex_table.specs.Sorted.{IncreasesBelow}
-use Rattle.vortex_table.proofs.scan.selection.ascending_len.Given as goal
-
-abbrev pub invariant-loop-i : goal.invariant-loop-i
-invariant-loop-i g l = IncreasesBelow g.T.Ord.cmp l.items l.i

@@ -1,0 +1,9 @@
+pub mod Canonical
+pub mod Decoded
+pub mod Fields
+pub mod Leading
+pub mod Slices
+pub mod Steps
+pub mod Unique
+pub mod Varints
+pub mod Written

@@ -1,0 +1,5 @@
+pub mod Canonical
+pub mod Grammar
+pub mod Messages
+pub mod Places
+pub mod Tables

@@ -97,6 +97,22 @@ fn push_blocks<T: PrimitiveWidth, U: PrimitiveWidth>(
     Ok(fit)
 }
 
+// Makes the room, and pushes all numbers.
+fn push_all<T: PrimitiveWidth, U: PrimitiveWidth>(
+    alloc: Global,
+    items: &[T],
+    other: U,
+    out: &mut Vec<U>,
+) -> Result<bool, AllocError>
+    requires empty { out.old.items ≡ [] }
+    ensures cast { OnOk result (AreCast (in_width U.width) (map T.number items.now) (map U.number out.new.items)) }
+    ensures end { OnOk result (length out.new.items ≡ length items.now) }
+    ensures fit { IfOk result (λ fit. fit ≡ list_all (in_width U.width) (map T.number items.now)) }
+{
+    let mut room = Vec::from_elem(alloc, other, items.len().min(BLOCK))?;
+    push_blocks(items, other, &mut room, out)
+}
+
 /// The numbers in another width, where they lie in it, and whether all do. In the place of one that does not stands any.
 pub(crate) fn cast_items<T: PrimitiveWidth, U: PrimitiveWidth>(
     alloc: Global,
@@ -108,8 +124,7 @@ pub(crate) fn cast_items<T: PrimitiveWidth, U: PrimitiveWidth>(
     ensures ok { IfOk result (λ made. AreCast (in_width U.width) (map T.number items.now) (numbers_of made.0)) }
     ensures fits { IfOk result (λ made. made.1 ≡ list_all (in_width U.width) (map T.number items.now)) }
 {
-    let mut room = Vec::from_elem(alloc, other, items.len().min(BLOCK))?;
     let mut out = Vec::with_capacity(alloc, items.len())?;
-    let fit = push_blocks(items, other, &mut room, &mut out)?;
+    let fit = push_all(alloc, items, other, &mut out)?;
     Ok((U::into_buffer(Buffer::from_vec(out)), fit))
 }

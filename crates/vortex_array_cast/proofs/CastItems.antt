@@ -1,5 +1,5 @@
 -- Items that are cast one by one, and block by block.
-use Rattle.std.proofs.Common.{ℕ, inl, inr, ◌<◌, ◌≤◌, ◌≡◌, ◌+◌, ◌-◌, Bool, List, [], ◌∷◌, ◌++◌, length, get_or, map, take, drop, slice_set, refl, sym, ap, ◌∙◌, arith}
+use Rattle.std.proofs.Common.{ℕ, inl, inr, ◌<◌, ◌≤◌, ◌≡◌, ◌+◌, Bool, List, [], ◌∷◌, ◌++◌, length, get_or, map, take, drop, slice_set, sym, ap, ◌∙◌, arith}
 use Rattle.std.specs.Prelude.{ℤ, pos, IsTrue, ◌⊎◌, ◌&&◌}
 use Rattle.std.specs.List.{list_all}
 use Rattle.std.proofs.lemmas.Bool.{cases_lt}

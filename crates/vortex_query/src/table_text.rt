@@ -21,7 +21,7 @@ use std::alloc::{AllocError, AllocFailed, Global};
 use thiserror::Error;
 use vortex_array::{ColumnDesc, Name};
 use vortex_io::MemorySource;
-use vortex_table::{Chunk, PartitionDesc, Table, TableError};
+use vortex_table::{Chunk, PartitionDesc, Table, TableError, TableRefused};
 
 /// Why the text of a table is refused.
 #[derive(Clone, Copy, Debug, PartialEq, Eq, Error)]
@@ -92,11 +92,11 @@ fn one_column(alloc: Global, name: Name) -> Result<Vec<ColumnDesc>, AllocError>
 }
 
 // The refusal of a table whose description fits: memory was wanting.
-fn memory_wanting(error: &TableError) -> TableTextError
-    requires { error.now ≡ tables.OutOfMemory }
+fn memory_wanting(refused: TableRefused<MemorySource<Chunk>>) -> TableTextError
+    requires { refused.error ≡ tables.OutOfMemory }
     ensures { result ≡ OutOfMemory }
 {
-    match error {
+    match refused.error {
         TableError::OutOfMemory => TableTextError::OutOfMemory,
         TableError::RepeatedName
         | TableError::SourceCount
@@ -129,6 +129,6 @@ pub fn table_of(
     let columns = one_column(alloc, name)?;
     match Table::try_new(alloc, columns, partitions, sources) {
         Ok(table) => Ok(table),
-        Err(refused) => Err(memory_wanting(&refused.error)),
+        Err(refused) => Err(memory_wanting(refused)),
     }
 }

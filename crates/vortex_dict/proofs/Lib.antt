@@ -1,0 +1,7 @@
+pub mod Decodings
+pub mod Gathered
+pub mod Named
+pub mod Refusals
+pub mod Repeats
+pub mod Held
+pub mod Short

@@ -1,0 +1,16 @@
+use Rattle.std.proofs.Common.{length}
+use Rattle.vortex_array.specs.ColumnOf.{column_of}
+use Rattle.vortex_dict.proofs.Decodings.{taken-codes, taken-names}
+use Rattle.vortex_dict.proofs.dict.DictArray.take.Goals as goal
+
+pub new-requires : goal.new-requires
+new-requires c =
+    let d = c.args.self.now in
+    rw (c.in_ok-codes.ensures.column, c.in_ok-values.ensures, c.values.ensures.value, c.codes.ensures.value)
+    (taken-names (column_of c.args.indices.now) (column_of d.codes) (length (column_of d.values).rows) c.codes.ensures.fits)
+
+pub returns-clause-column : goal.returns-clause-column
+returns-clause-column c =
+    let d = c.args.self.now in
+    rw (c.new.ensures, c.in_ok-codes.ensures.column, c.in_ok-values.ensures, c.values.ensures.value, c.codes.ensures.value)
+    (taken-codes (column_of c.args.indices.now) (column_of d.codes) (column_of d.values))

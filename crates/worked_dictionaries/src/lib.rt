@@ -1,0 +1,13 @@
+//! Dictionary arrays by worked cases: tests alone.
+#![tactic(auto)]
+
+#[cfg(test)]
+mod answering;
+#[cfg(test)]
+mod decoding;
+#[cfg(test)]
+mod making;
+#[cfg(test)]
+mod parts;
+#[cfg(test)]
+mod samples;

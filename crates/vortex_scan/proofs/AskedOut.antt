@@ -22,10 +22,10 @@ use Rattle.vortex_scan.specs.Steps.{Asks, handed}
 use Rattle.vortex_scan.specs.Visits.{asked_count}
 use Rattle.vortex_scan.proofs.Places.{get_set}
 
-one_fewer : (owner : IoOwnerId) (request : IoRequestId) (old new : List Fetch) (entry : Fetch) → Taken owner request old new entry → length new + 1 ≡ length old
+pub one_fewer : (owner : IoOwnerId) (request : IoRequestId) (old new : List Fetch) (entry : Fetch) → Taken owner request old new entry → length new + 1 ≡ length old
 one_fewer owner request old new entry t = rw (t.stood, t.left) (omega (arith, length-append t.before t.behind, length-append t.before (entry ∷ t.behind)))
 
-count_set : {W : Type 0} (items : List (Item W)) (at : ℕ) (item now : Item W) → slice_get items at ≡ Some item → length now.asked + 1 ≡ length item.asked → asked_count (set items at now) + 1 ≡ asked_count items
+pub count_set : {W : Type 0} (items : List (Item W)) (at : ℕ) (item now : Item W) → slice_get items at ≡ Some item → length now.asked + 1 ≡ length item.asked → asked_count (set items at now) + 1 ≡ asked_count items
 count_set {W} items at item now there fewer =
     let f : Item W → ℕ = λ x. length x.asked in
     let h = sum_by-set f items at now item (slice_get_within items at item there) in

@@ -1,5 +1,5 @@
 -- What was given and is still owed stays the same, step by step.
-use Rattle.std.proofs.Common.{◌≡◌, ◌≢◌, ℕ, ◌+◌, ◌<◌, ◌≤◌, List, [], ◌∷◌, ◌++◌, refl, sym, ◌∙◌, ap, subst, Bool, true, false, cond, not, ◌&&◌, Option, None, Some, Ok, arith, filter, map, ◌⊎◌, ⊎_elim, inl, inr, ◌^◌, ◌-◌}
+use Rattle.std.proofs.Common.{◌≡◌, ℕ, ◌+◌, ◌≤◌, List, [], ◌∷◌, ◌++◌, refl, sym, ◌∙◌, ap, subst, Bool, true, false, cond, ◌&&◌, Option, None, Some, Ok, arith, ⊎_elim, inl, inr, ◌^◌, ◌-◌}
 use Rattle.std.specs.Prelude.{slice_get, count_by, sum_by}
 use Rattle.std.specs.List.{AllByRecursion, remove}
 use Rattle.std.proofs.Math.ListN.{set}
@@ -7,15 +7,12 @@ use Rattle.std.proofs.lemmas.List.Sums.{sum_by_push}
 use Rattle.std.proofs.lemmas.Bool.{cases_order}
 use Rattle.vortex_buffer.specs.Counts.{Rose}
 use Rattle.vortex_io.specs.Source.{Agrees, Completes, Content, IsHonest, Taken, TakesNone, TakesOne, is_named, is_of_kind}
-use Rattle.vortex_io.specs.declared.ids.IoOwnerId.{IoOwnerId}
 use Rattle.vortex_io.specs.declared.payload.Payload.{Ghosts as Meanings}
 use Rattle.vortex_io.specs.declared.request.Completion.{Completion}
 use Rattle.vortex_io.specs.declared.request.Fetch.{Fetch}
-use Rattle.vortex_io.specs.declared.request.IoRequest.{IoRequest}
 use Rattle.vortex_io.specs.declared.request.IoTarget.{IoTarget}
 use Rattle.vortex_io.specs.declared.source.IoSource.{Ghosts}
 use Rattle.vortex_scan_types.specs.declared.batch.Batch.{Batch}
-use Rattle.vortex_scan_types.specs.declared.batch.WorkScope.{WorkScope}
 use Rattle.vortex_scan.specs.declared.errors.Progress.{Progress}
 use Rattle.vortex_scan.specs.declared.errors.Progress.TheVariants as progress
 use Rattle.vortex_scan.specs.declared.errors.Visited.{Visited}
@@ -29,25 +26,24 @@ use Rattle.vortex_scan.specs.declared.state.State.{State}
 use Rattle.vortex_scan.specs.declared.state.State.TheVariants as state
 use Rattle.vortex_scan.specs.declared.worker.Worker.{Ghosts as Works}
 use Rattle.vortex_scan.specs.Asking.{AsksOnce}
-use Rattle.vortex_scan.specs.Bag.{AddsToBag, AreHonest, Carries, KeepsBag, IsEmptied, KeepsBagGiven, Owing, bag, batches_of, entries_of, owes}
+use Rattle.vortex_scan.specs.Bag.{AddsToBag, AreHonest, KeepsBag, IsEmptied, KeepsBagGiven, Owing, batches_of, entries_of, owes}
 use Rattle.vortex_scan.specs.Fetching.{is_answer}
 use Rattle.vortex_scan.specs.Fits.{ItemFits, LiveFits}
 use Rattle.vortex_scan.specs.Going.{Advances}
-use Rattle.vortex_scan.specs.Keys.{IsLeastReady}
 use Rattle.vortex_scan.specs.Naming.{AskAsNamed, IsNamed, ItemIsNamed}
 use Rattle.vortex_scan.specs.Owed.{Entry, rows_of}
-use Rattle.vortex_scan.specs.RunState.{Live, RunState, has_root, is_of_root, live_with, put}
+use Rattle.vortex_scan.specs.RunState.{Live, RunState, has_root, live_with, put}
 use Rattle.vortex_scan.specs.Sources.{KeepsEach}
-use Rattle.vortex_scan.specs.Steps.{Asks, Delivers, Follows, Hands, Publishes, Retires, Settles, Spawns, Visits, WaitsFor, child_of, computed, handed, published}
-use Rattle.vortex_scan.proofs.Asked.{asks_fits, waits_fits}
+use Rattle.vortex_scan.specs.Steps.{Asks, Delivers, Follows, Hands, Retires, Settles, Visits, WaitsFor, child_of, computed, handed, published}
+use Rattle.vortex_scan.proofs.Asked.{asks_fits}
 use Rattle.vortex_scan.proofs.Chains.{Carried, came_batches, carry_advance, carry_once}
-use Rattle.vortex_scan.proofs.Fitting.{delivered_outstanding, left_fits}
+use Rattle.vortex_scan.proofs.Fitting.{left_fits}
 use Rattle.vortex_scan.proofs.Keeping.{slot_after, slot_before, slots_at}
-use Rattle.vortex_scan.proofs.Named.{asks_named, asks_so, visit_named, waits_named}
+use Rattle.vortex_scan.proofs.Named.{asks_named, asks_so, visit_named}
 use Rattle.vortex_scan.proofs.Owing.{OutputGives, WorkOwes}
 use Rattle.vortex_scan.proofs.Places.{each_at, each_behind, get_set}
 use Rattle.vortex_scan.proofs.Stepping.{taken_named}
-use Rattle.vortex_scan.proofs.Tallies.{count_cons, count_join, one_if, removed_sum, set_sum}
+use Rattle.vortex_scan.proofs.Tallies.{count_cons, count_join, removed_sum, set_sum}
 use Rattle.vortex_scan.proofs.Visiting.{visit_fits}
 
 -- An honest call is honest in its parts.

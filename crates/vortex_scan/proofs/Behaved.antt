@@ -1,6 +1,6 @@
 -- Orderly runs stay orderly, and work off what they have to do, step by step.
-use Rattle.std.proofs.Common.{◌≡◌, ◌≢◌, ℕ, zero, suc, ◌+◌, ◌<◌, ◌≤◌, List, [], ◌∷◌, ◌++◌, refl, sym, ◌∙◌, ap, subst, Bool, true, false, cond, not, ◌&&◌, ◌||◌, Option, None, Some, Ok, arith, filter, map, IsTrue}
-use Rattle.std.specs.Prelude.{slice_get, eqb, sum_by}
+use Rattle.std.proofs.Common.{◌≡◌, ◌≢◌, ℕ, zero, suc, ◌+◌, ◌<◌, ◌≤◌, List, [], ◌∷◌, ◌++◌, refl, sym, ◌∙◌, ap, subst, Bool, true, false, cond, not, ◌||◌, Option, None, Some, arith, filter, map, IsTrue}
+use Rattle.std.specs.Prelude.{slice_get, eqb}
 use Rattle.std.specs.List.{AllByRecursion, list_any, remove}
 use Rattle.std.proofs.Math.ListN.{set}
 use Rattle.std.proofs.lemmas.Bool.{eqb-true}
@@ -16,7 +16,6 @@ use Rattle.vortex_io.specs.declared.request.Fetch.{Fetch}
 use Rattle.vortex_io.specs.declared.request.IoRequest.{IoRequest}
 use Rattle.vortex_io.specs.declared.source.IoSource.{Ghosts}
 use Rattle.vortex_scan_types.specs.declared.batch.Batch.{Batch}
-use Rattle.vortex_scan_types.specs.declared.batch.WorkScope.{WorkScope}
 use Rattle.vortex_scan.specs.declared.errors.Visited.{Visited}
 use Rattle.vortex_scan.specs.declared.item.Item.{Item}
 use Rattle.vortex_scan_types.specs.declared.place.RootId.{RootId}
@@ -30,10 +29,9 @@ use Rattle.vortex_scan.specs.Fits.{ItemFits, LiveFits}
 use Rattle.vortex_scan.specs.InOrder.{IsOrderly, ItemIsOrderly, as_fetches, work_left}
 use Rattle.vortex_scan.specs.Keys.{IsLeastReady}
 use Rattle.vortex_scan.specs.Numbers.{repeats}
-use Rattle.vortex_scan.specs.Orderly.{asked_with, has_number, is_other}
+use Rattle.vortex_scan.specs.Orderly.{has_number, is_other}
 use Rattle.vortex_scan.specs.RunState.{Live, put}
-use Rattle.vortex_scan.specs.Sources.{KeepsEach}
-use Rattle.vortex_scan.specs.Steps.{Asks, Delivers, Follows, Hands, Retires, Settles, Visits, WaitsFor, child_of, computed, handed, is_waiting, published}
+use Rattle.vortex_scan.specs.Steps.{Asks, Delivers, Follows, Hands, Retires, Settles, Visits, child_of, computed, handed, is_waiting, published}
 use Rattle.vortex_scan.proofs.Asked.{asks_fits}
 use Rattle.vortex_scan.proofs.Chains.{Carried, came_batches}
 use Rattle.vortex_scan.proofs.Ordering.{OutputGoesOn, WorkIsOrderly}

@@ -16,7 +16,7 @@ use Rattle.vortex_scan_types.specs.declared.place.RootId.{RootId}
 use Rattle.vortex_scan.specs.declared.worker.Worker.{Ghosts as Works}
 use Rattle.vortex_scan.specs.Asking.{AskingFails, AsksLive, AsksOnce, is_live, root_at}
 use Rattle.vortex_scan.specs.Bag.{batches_of}
-use Rattle.vortex_scan.specs.Fails.{AskFails, VisitFails}
+use Rattle.vortex_scan.specs.Fails.{AskFails, VisitFails, VisitGives}
 use Rattle.vortex_scan.specs.Going.{AdvanceFails, Advances, AskingFailsThen, AsksAll, AsksIfDue, AsksOut, AsksOutFails, Ends, Gives, GoesOn, TurnFails, TurnFailsThen, Turns, VisitLeastFails}
 use Rattle.vortex_scan.specs.Keys.{IsLeastReady}
 use Rattle.vortex_scan.specs.RunState.{Live, RunState}
@@ -43,8 +43,9 @@ pub record Carried {W S C E : Type 0} (works : Works W C E) (source : Ghosts S C
 -- the step at which a call fails
 pub record Breaks {W S C E : Type 0} (works : Works W C E) (source : Ghosts S C) (payload : Meanings C) (made limit : ℕ) (old new : Live W S) (why : RunError E) : Type 0 where
   pub way : ((root : RootId) × AskFails works source payload root old new why)
-      ⊎ (((why ≡ error.StepLimit) × (limit ≤ made) × ((at : ℕ) × (item : Item W) × IsLeastReady old.items at item))
-      ⊎ ((at : ℕ) × (item : Item W) × IsLeastReady old.items at item × KeepsEach source old.slots new.slots × VisitFails works source (works.state_is item.work) at item old new why))
+      ⊎ (((why ≡ error.StepLimit) × (limit ≤ made) × ((at : ℕ) × (item : Item W) × IsLeastReady old.items at item) × (new ≡ old))
+      ⊎ ((at : ℕ) × (item : Item W) × IsLeastReady old.items at item × KeepsEach source old.slots new.slots × VisitFails works source (works.state_is item.work) at item old new why
+      × VisitGives works source (works.state_is item.work) item old.slots new.slots))
 
 -- where a call went on to, and the step that fails there
 pub record Broken {W S C E : Type 0} (works : Works W C E) (source : Ghosts S C) (payload : Meanings C) (holds : Live W S → Type 0) (keeps : List Batch → ℕ → Live W S → ℕ → Live W S → Type 0) (made limit : ℕ) (old new : Live W S) (why : RunError E) : Type 0 where
@@ -186,8 +187,8 @@ module _ {W S C E : Type 0} (works : Works W C E) (source : Ghosts S C) (payload
         kept = first.1;
         sources = asks_due_keeps works source payload t.asked old t.between t.asks;
         breaks = record {
-          way = ⊎_elim (λ l. let at_limit = l.1 in inr (inl (l.0, (rw same at at_limit.reached), (at_limit.at, at_limit.item, at_limit.least))))
-              (λ (v : VisitLeastFails works source t.between new why). inr (inr (v.at, v.item, v.least, v.sources, v.fails))) t.fails;
+          way = ⊎_elim (λ l. let at_limit = l.1 in inr (inl (l.0, (rw same at at_limit.reached), (at_limit.at, at_limit.item, at_limit.least), ap (λ (r : RunState W S). r.live) l.2)))
+              (λ (v : VisitLeastFails works source t.between new why). inr (inr (v.at, v.item, v.least, v.sources, v.fails, v.gives))) t.fails;
         };
       }) f
 

@@ -99,7 +99,7 @@ module _ {S C : Type 0} (source : Ghosts S C) where
         lied = rose_in_whole (source.lies was.0.source) (source.lies f.before.source) (source.lies f.after.source) kept.keeps.lies f.lied;
       }
 
-  lies_on : {W E : Type 0} (why : RunError E) (a b : Live W S) (d : List (Slot S)) → KeepsEach source a.slots b.slots → StaysInStep source a b → LiesByCause source why b d → LiesByCause source why a d
+  pub lies_on : {W E : Type 0} (why : RunError E) (a b : Live W S) (d : List (Slot S)) → KeepsEach source a.slots b.slots → StaysInStep source a b → LiesByCause source why b d → LiesByCause source why a d
   lies_on why a b d k s f root owner request e was = lied_on root a.slots b.slots d k (f root owner request e (s root was))
 
 module _ {W S C : Type 0} (source : Ghosts S C) where
@@ -141,13 +141,13 @@ module _ {W S C E : Type 0} (works : Works W C E) (source : Ghosts S C) (payload
 
   ask_lies : (root : RootId) (old new : Live W S) (why : RunError E) → AskFails works source payload root old new why → LiesByCause source why old new.slots
   ask_lies root old new why f other owner request e was =
-      ⊎_elim (λ memory. absurd (cc))
+      ⊎_elim (λ memory. absurd (let h = memory.0 in cc))
       (λ g. ⊎_elim (λ faults. absurd (let h = faults.0 in cc))
       (λ (m : PollMisses works source payload root old new why). miss_lies root other owner request m.completion old new.slots why m.slot m.after e m.fails m.there m.live m.polls.accounts m.now was) g) f
 
   pub wait_lies : (root : RootId) (old new : Live W S) (why : RunError E) → WaitFails works source payload root old new why → LiesByCause source why old new.slots
   wait_lies root old new why f other owner request e was =
-      ⊎_elim (λ memory. absurd (cc))
+      ⊎_elim (λ memory. absurd (let h = memory.0 in cc))
       (λ g. ⊎_elim (λ faults. absurd (let h = faults.0 in cc))
       (λ (m : WaitMisses works source payload root old new why). miss_lies root other owner request m.completion old new.slots why m.slot m.after e m.fails m.there m.live m.waits.accounts m.now was) g) f
 

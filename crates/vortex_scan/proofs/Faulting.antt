@@ -86,7 +86,7 @@ module _ {W S C E : Type 0} (works : Works W C E) (source : Ghosts S C) (payload
 
   ask_cause : (root : RootId) (old new : Live W S) (why : RunError E) → AskFails works source payload root old new why → FailsByCause source why old.slots new.slots
   ask_cause root old new why f other e =
-      ⊎_elim (λ memory. absurd (cc))
+      ⊎_elim (λ memory. absurd (let h = memory.0 in cc))
       (λ g. ⊎_elim (λ faults.
       let h = faults.0 in
       let same : root ≡ other = cc in
@@ -103,7 +103,7 @@ module _ {W S C E : Type 0} (works : Works W C E) (source : Ghosts S C) (payload
 
   pub wait_cause : (root : RootId) (old new : Live W S) (why : RunError E) → WaitFails works source payload root old new why → FailsByCause source why old.slots new.slots
   wait_cause root old new why f other e =
-      ⊎_elim (λ memory. absurd (cc))
+      ⊎_elim (λ memory. absurd (let h = memory.0 in cc))
       (λ g. ⊎_elim (λ faults.
       let h = faults.0 in
       let same : root ≡ other = cc in

@@ -10,11 +10,11 @@ use Rattle.vortex_scan.specs.declared.item.Slot.{Slot}
 use Rattle.vortex_scan.specs.Sources.{Clears, ClearsEach, Keeps, KeepsEach, KeepsSlot, Releases}
 use Rattle.vortex_scan.specs.Steps.{ClearsLast}
 
-grown_none : (told : Option (List JournalEntry)) → told ≡ grown told []
+pub grown_none : (told : Option (List JournalEntry)) → told ≡ grown told []
 grown_none None = refl
 grown_none (Some journal) = ap (λ z. Some z) (sym (append-nil journal))
 
-grown_twice : (told : Option (List JournalEntry)) (first then : List JournalEntry) → grown (grown told first) then ≡ grown told (first ++ then)
+pub grown_twice : (told : Option (List JournalEntry)) (first then : List JournalEntry) → grown (grown told first) then ≡ grown told (first ++ then)
 grown_twice None first then = refl
 grown_twice (Some journal) first then = ap (λ z. Some z) (append_assoc journal first then)
 

@@ -5,6 +5,7 @@ use Rattle.std.specs.List.{remove}
 use Rattle.std.proofs.Math.ListN.{set}
 use Rattle.std.proofs.lemmas.Option.{get_or_from_slice_get}
 use Rattle.vortex_io.specs.declared.request.IoRequest.{IoRequest}
+use Rattle.vortex_io.specs.declared.request.IoError.{IoError}
 use Rattle.vortex_io.specs.declared.request.IoError.TheVariants as cause
 use Rattle.vortex_io.specs.declared.source.IoSource.{Ghosts}
 use Rattle.vortex_scan.specs.declared.errors.RunError.{RunError}
@@ -13,7 +14,7 @@ use Rattle.vortex_scan.specs.declared.errors.Visited.{Visited}
 use Rattle.vortex_scan.specs.declared.errors.Visited.TheVariants.{Went, RootDone}
 use Rattle.vortex_scan.specs.declared.item.Item.{Item}
 use Rattle.vortex_scan.specs.declared.item.Slot.{Slot}
-use Rattle.vortex_scan.specs.Fails.{SubmitFaults}
+use Rattle.vortex_scan.specs.Fails.{IsGiven, SubmitFaults}
 use Rattle.vortex_scan.specs.Fetching.{numbers}
 use Rattle.vortex_scan.specs.Numbers.{repeats}
 use Rattle.vortex_scan.specs.RunState.{Live, has_root, live_with}
@@ -88,3 +89,17 @@ module _ {W S C : Type 0} (source : Ghosts S C) (at : ℕ) (item : Item W) (batc
   pub there_published : {items items' : List (Item W)} {slots slots' : List (Slot S)} {owners : ℕ} → slice_get items at ≡ Some item → Publishes source at item batch (live_with items slots owners) (live_with items' slots' owners)
       → slice_get items' at ≡ Some (published item batch)
   there_published {items} there p = rw (items_published p) (get_set items at item (published item batch) there)
+
+-- a batch that was refused, and one that was taken, were given
+pub given_in_vain : {W S C : Type 0} (source : Ghosts S C) (item r : Item W) (batch : List IoRequest) (slots slots' : List (Slot S)) → r ≡ published item batch → item.root.0 < length slots
+    → ((slot : Slot S) → slice_get slots r.root.0 ≡ Some slot → (reason : IoError) × (after : S) × Submits source r.owner batch (Err reason) slot.source after × (slots' ≡ set slots r.root.0 (record slot { source = after })))
+    → IsGiven source item batch slots slots'
+given_in_vain {W} {S} {C} source item r batch slots slots' same known given =
+    let s = some_at slots item.root.0 known in
+    let did = subst (λ (x : Item W). (slot : Slot S) → slice_get slots x.root.0 ≡ Some slot → (reason : IoError) × (after : S) × Submits source x.owner batch (Err reason) slot.source after × (slots' ≡ set slots x.root.0 (record slot { source = after }))) same given s.0 s.1 in
+    record { slot = s.0; there = s.1; answer = Err did.0; after = did.1; submits = did.2; now = did.3 }
+
+pub given_once : {W S C : Type 0} (source : Ghosts S C) (at : ℕ) (item : Item W) (batch : List IoRequest) (items items' : List (Item W)) (slots slots' : List (Slot S)) (owners : ℕ) → Publishes source at item batch (live_with items slots owners) (live_with items' slots' owners)
+    → IsGiven source item batch slots slots'
+given_once {W} {S} source at item batch items items' slots slots' owners p =
+    record { slot = p.slot; there = p.there; answer = Ok tt; after = p.after; submits = p.submits; now = ap (λ (l : Live W S). l.slots) p.now }

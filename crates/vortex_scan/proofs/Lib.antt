@@ -35,4 +35,16 @@ pub mod Behaved
 pub mod Refusing
 pub mod Permitted
 pub mod WholeOrder
+pub mod Passing
+pub mod Planning
+pub mod Journals
+pub mod Planned
+pub mod Seated
+pub mod WholeSeats
+pub mod FailedSeats
+pub mod Noting
+pub mod RestingSeats
 pub mod Ended
+pub mod Proceeding
+pub mod Driven
+pub mod Homing

@@ -1,10 +1,10 @@
 -- Each number of a fetch goes on to name one target, step by step.
-use Rattle.std.proofs.Common.{◌≡◌, ◌≢◌, ℕ, ◌+◌, ◌<◌, List, [], ◌∷◌, ◌++◌, refl, sym, ◌∙◌, ap, subst, Bool, true, false, cond, not, ◌&&◌, Option, None, Some, Ok, arith, IsTrue, filter, map, ◌⊎◌, ⊎_elim}
+use Rattle.std.proofs.Common.{◌≡◌, ◌≢◌, ℕ, ◌+◌, ◌<◌, List, [], ◌∷◌, ◌++◌, refl, sym, ◌∙◌, ap, subst, Bool, true, false, cond, not, ◌&&◌, Option, None, Some, Ok, arith, IsTrue, filter, map, ⊎_elim}
 use Rattle.std.specs.Prelude.{slice_get}
 use Rattle.std.specs.List.{AllByRecursion, remove}
 use Rattle.std.proofs.Math.ListN.{set}
 use Rattle.std.proofs.lemmas.List.Elements.{All-head, All-tail}
-use Rattle.vortex_io.specs.Source.{Completes, Taken, TakesNone, TakesOne, fetch_of, fetches, is_fetch, is_of_others}
+use Rattle.vortex_io.specs.Source.{Completes, TakesNone, TakesOne, fetch_of, fetches, is_fetch, is_of_others}
 use Rattle.vortex_io.specs.declared.ids.IoOwnerId.{IoOwnerId}
 use Rattle.vortex_io.specs.declared.ids.IoRequestId.{IoRequestId}
 use Rattle.vortex_io.specs.declared.payload.Payload.{Ghosts as Meanings}

@@ -1,11 +1,10 @@
 -- How the work of an item behaves, by the rules of orderly planners and morsels.
-use Rattle.std.proofs.Common.{◌≡◌, ◌≢◌, ℕ, ◌+◌, ◌<◌, ◌≤◌, List, [], ◌∷◌, ◌++◌, refl, sym, subst, ap, IsTrue, Bool, true, filter, Option, Some, Result, Ok, Err}
+use Rattle.std.proofs.Common.{◌≡◌, ◌≢◌, ℕ, ◌+◌, ◌<◌, ◌≤◌, List, [], ◌∷◌, refl, sym, subst, ap, IsTrue, Bool, filter, Option, Result, Ok, Err}
 use Rattle.vortex_io.specs.Source.{Agrees, Content, is_of_kind}
 use Rattle.vortex_io.specs.declared.ids.IoRequestId.{IoRequestId}
 use Rattle.vortex_io.specs.declared.request.IoRequest.{IoRequest}
 use Rattle.vortex_io.specs.declared.request.IoResult.{IoResult}
 use Rattle.vortex_io.specs.declared.request.IoTarget.{IoTarget}
-use Rattle.vortex_scan_types.specs.declared.batch.WorkScope.{WorkScope}
 use Rattle.vortex_scan.specs.declared.state.MorselOutput.{MorselOutput}
 use Rattle.vortex_scan.specs.declared.state.MorselOutput.TheVariants as morsel
 use Rattle.vortex_scan.specs.declared.state.Output.{Output}

@@ -13,3 +13,7 @@ if_err P Q (Err e) f p = f e p
 pub if_ok_both : {T E : Type 0} (P Q R : T → Type 0) (r : Result T E) → ((x : T) → P x → Q x → R x) → IfOk r P → IfOk r Q → IfOk r R
 if_ok_both P Q R (Ok x) f p q = f x p q
 if_ok_both P Q R (Err e) f p q = tt
+
+pub if_err_both : {T E : Type 0} (P Q R : E → Type 0) (r : Result T E) → ((e : E) → P e → Q e → R e) → IfErr r P → IfErr r Q → IfErr r R
+if_err_both P Q R (Ok x) f p q = tt
+if_err_both P Q R (Err e) f p q = f e p q

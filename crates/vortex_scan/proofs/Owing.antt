@@ -1,6 +1,5 @@
 -- What the work of an item owes, by the rules of planners and of morsels.
-use Rattle.std.proofs.Common.{◌≡◌, ℕ, List, [], ◌∷◌, ◌++◌, refl, sym, ◌∙◌, ap, subst, Option, Some, Result, Ok, Err, map}
-use Rattle.std.proofs.lemmas.List.{map-append}
+use Rattle.std.proofs.Common.{◌≡◌, ℕ, List, [], ◌∷◌, ◌++◌, refl, sym, ap, subst, Option, Some, Result, Ok, Err}
 use Rattle.vortex_io.specs.Source.{Agrees, Content}
 use Rattle.vortex_io.specs.declared.ids.IoRequestId.{IoRequestId}
 use Rattle.vortex_io.specs.declared.request.IoRequest.{IoRequest}
@@ -102,7 +101,8 @@ module _ {P M C E V : Type 0} (means : C → V) (planner_takes : P → IoRequest
   morsel_asked (Ok (morsel.Batch array)) batch of is e = absurd (cc)
   morsel_asked (Err error) batch of is e = absurd (cc)
 
-  publishes_by : PlannerOwes means planner_takes planner_names planner_state planner_computes planner_owed morsel_owed → MorselOwes means morsel_takes morsel_names morsel_state morsel_computes morsel_owed
+  -- and its publications name their targets
+  pub publishes_by : PlannerOwes means planner_takes planner_names planner_state planner_computes planner_owed morsel_owed → MorselOwes means morsel_takes morsel_names morsel_state morsel_computes morsel_owed
       → (old : Work P M) (batch : List IoRequest) (new : Work P M) → WorkComputes planner_computes morsel_computes old (Ok (output.NeedsIO batch)) new → NamesTargets (work_names planner_names morsel_names old) batch
   publishes_by p m (work.Planner old) batch (work.Planner new) c = p.publishes old batch new (subst (λ z. planner_computes old z new) (planner_asked c.0 batch c.2) c.1)
   publishes_by p m (work.Morsel old) batch (work.Morsel new) c = m.publishes old batch new (subst (λ z. morsel_computes old z new) (morsel_asked c.0 batch (Ok (output.NeedsIO batch)) c.2 refl) c.1)

@@ -1,19 +1,15 @@
 -- Live items of orderly runs are permitted no more errors than before, and fail by none other.
-use Rattle.std.proofs.Common.{◌≡◌, ◌≢◌, ℕ, zero, suc, ◌+◌, ◌<◌, ◌≤◌, List, [], ◌∷◌, ◌++◌, refl, sym, ◌∙◌, ap, subst, Bool, true, false, ◌&&◌, Option, None, Some, Ok, Err, Result, arith, filter, map, inl, inr, ◌⊎◌, ⊎_elim}
+use Rattle.std.proofs.Common.{◌≡◌, ℕ, suc, ◌+◌, List, [], ◌∷◌, ◌++◌, refl, sym, ◌∙◌, ap, subst, Bool, true, false, Option, None, Some, Ok, Err, Result, filter, ⊎_elim}
 use Rattle.std.specs.Prelude.{slice_get}
-use Rattle.std.specs.List.{AllByRecursion, remove}
+use Rattle.std.specs.List.{AllByRecursion}
 use Rattle.std.proofs.Math.ListN.{set}
 use Rattle.vortex_io.specs.Source.{Agrees, Completes, Content, IsHonest, TakesNone, TakesOne, is_named, is_of_kind}
-use Rattle.vortex_io.specs.declared.ids.IoOwnerId.{IoOwnerId}
-use Rattle.vortex_io.specs.declared.ids.IoRequestId.{IoRequestId}
 use Rattle.vortex_io.specs.declared.payload.Payload.{Ghosts as Meanings}
 use Rattle.vortex_io.specs.declared.request.Completion.{Completion}
 use Rattle.vortex_io.specs.declared.request.Fetch.{Fetch}
 use Rattle.vortex_io.specs.declared.request.IoRequest.{IoRequest}
-use Rattle.vortex_io.specs.declared.request.IoTarget.{IoTarget}
 use Rattle.vortex_io.specs.declared.source.IoSource.{Ghosts}
 use Rattle.vortex_scan_types.specs.declared.batch.Batch.{Batch}
-use Rattle.vortex_scan_types.specs.declared.batch.WorkScope.{WorkScope}
 use Rattle.vortex_scan.specs.declared.errors.Progress.{Progress}
 use Rattle.vortex_scan.specs.declared.errors.RunError.{RunError}
 use Rattle.vortex_scan.specs.declared.errors.RunError.TheVariants as error
@@ -27,18 +23,18 @@ use Rattle.vortex_scan.specs.declared.state.State.{State}
 use Rattle.vortex_scan.specs.declared.state.State.TheVariants as state
 use Rattle.vortex_scan.specs.declared.worker.Worker.{Ghosts as Works}
 use Rattle.vortex_scan.specs.Asking.{AsksOnce}
-use Rattle.vortex_scan.specs.Bag.{Carries, Owing, batches_of}
+use Rattle.vortex_scan.specs.Bag.{Owing}
 use Rattle.vortex_scan.specs.Fails.{AskFails, FollowFails, PollMisses, VisitFails}
 use Rattle.vortex_scan.specs.Fetching.{is_answer, numbers}
 use Rattle.vortex_scan.specs.Fits.{ItemFits, LiveFits}
 use Rattle.vortex_scan.specs.Going.{AdvanceFails, Advances}
-use Rattle.vortex_scan.specs.InOrder.{FailsAsPermitted, IsHonestAt, IsOrderly, IsPermitted, ItemIsOrderly, PermitsNoMore, PermitsNoMoreGiven, as_fetches}
+use Rattle.vortex_scan.specs.InOrder.{FailsAsPermitted, IsHonestAt, IsOrderly, IsPermitted, ItemIsOrderly, PermitsNoMore, PermitsNoMoreGiven}
 use Rattle.vortex_scan.specs.Keys.{IsLeastReady}
 use Rattle.vortex_scan.specs.Naming.{AskAsNamed, IsNamed, ItemIsNamed}
 use Rattle.vortex_scan.specs.Numbers.{repeats}
-use Rattle.vortex_scan.specs.Orderly.{has_number, is_other}
+use Rattle.vortex_scan.specs.Orderly.{has_number}
 use Rattle.vortex_scan.specs.Owed.{NamesTargets}
-use Rattle.vortex_scan.specs.RunState.{Live, RunState, has_root, live_with, put}
+use Rattle.vortex_scan.specs.RunState.{Live, RunState, live_with, put}
 use Rattle.vortex_scan.specs.Sources.{KeepsEach}
 use Rattle.vortex_scan.specs.Steps.{Asks, Delivers, Follows, Hands, Retires, Settles, Visits, WaitsFor, child_of, computed, handed, published}
 use Rattle.vortex_scan.proofs.Asked.{asks_fits}
@@ -47,7 +43,7 @@ use Rattle.vortex_scan.proofs.Behaved.{delivers_orderly, distinct_all, split, vi
 use Rattle.vortex_scan.proofs.Chains.{Carried, advance_breaks, came_batches, carry_advance, carry_once}
 use Rattle.vortex_scan.proofs.Fitting.{left_fits}
 use Rattle.vortex_scan.proofs.Keeping.{slot_after, slots_at}
-use Rattle.vortex_scan.proofs.Named.{asks_named, asks_so, visit_named}
+use Rattle.vortex_scan.proofs.Named.{asks_named, visit_named}
 use Rattle.vortex_scan.proofs.Ordering.{OutputPermits, WorkIsOrderly}
 use Rattle.vortex_scan.proofs.Owing.{WorkOwes}
 use Rattle.vortex_scan.proofs.Places.{each_at, each_behind, each_push, each_remove, each_set, get_set}
@@ -280,7 +276,7 @@ module _ {W S C E : Type 0} (works : Works W C E) (source : Ghosts S C) (payload
 
   ask_no_planner : (asker : RootId) (old new : Live W S) (why : RunError E) (root : RootId) (failure : E) → why ≡ error.Planner root failure → AskFails works source payload asker old new why → ⊥
   ask_no_planner asker old new why root failure e f =
-      ⊎_elim (λ m. absurd (cc)) (λ r. ⊎_elim (λ q. absurd (let is = q.0 in cc)) (λ (m : PollMisses works source payload asker old new why). ⊎_elim (λ q. absurd (let is = q.0 in cc)) (λ q. absurd (let is = q.0 in cc)) m.fails) r) f
+      ⊎_elim (λ m. absurd (let is = m.0 in cc)) (λ r. ⊎_elim (λ q. absurd (let is = q.0 in cc)) (λ (m : PollMisses works source payload asker old new why). ⊎_elim (λ q. absurd (let is = q.0 in cc)) (λ q. absurd (let is = q.0 in cc)) m.fails) r) f
 
   pub advance_fails_permitted : (old new : RunState W S) (why : RunError E) → LiveFits source old.live → IsNamed works.names source old.live → AdvanceFails works source payload old new why → FailsAsPermitted works source why old.live new.live
   advance_fails_permitted old new why fits named f root failure content e orderly honest =

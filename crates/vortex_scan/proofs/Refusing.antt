@@ -20,7 +20,7 @@ use Rattle.vortex_scan.specs.declared.state.State.{State}
 use Rattle.vortex_scan.specs.declared.state.State.TheVariants as state
 use Rattle.vortex_scan.specs.declared.worker.Worker.{Ghosts as Works}
 use Rattle.vortex_scan.specs.Asking.{AskingFails, IsFirstAsking, root_at}
-use Rattle.vortex_scan.specs.Fails.{AskFails, DeliverFails, DeliversInVain, FollowFails, PollFaults, PollMisses, PublishFails, VisitFails, WaitFails, WaitFaults, WaitMisses, SubmitFaults}
+use Rattle.vortex_scan.specs.Fails.{AskFails, DeliverFails, DeliversInVain, FollowFails, PollMisses, PublishFails, VisitFails, WaitFails, WaitMisses, SubmitFaults}
 use Rattle.vortex_scan.specs.Fetching.{numbers}
 use Rattle.vortex_scan.specs.Fits.{LiveFits}
 use Rattle.vortex_scan.specs.Going.{AdvanceFails, Advances}
@@ -43,7 +43,7 @@ pub record Fine {W S C E : Type 0} (works : Works W C E) (why : RunError E) (lim
   pub republished : why ≢ error.Republished
   pub waits_for_nothing : why ≢ error.WaitsForNothing
   pub step_limit : why ≡ error.StepLimit → limit < made + work_left works live.items
-  pub ids_exhausted : why ≡ error.IdsExhausted → 2 ^ 64 - 1 < live.next_owner + work_left works live.items
+  pub ids_exhausted : why ≡ error.IdsExhausted → 2 ^ 64 < live.next_owner + work_left works live.items
 
 no_fetches : (owner : IoOwnerId) (requests : List IoRequest) → as_fetches owner requests ≡ [] → requests ≡ []
 no_fetches owner [] e = refl
@@ -75,7 +75,7 @@ module _ {W S C E : Type 0} (works : Works W C E) (limit made : ℕ) (live : Liv
   fine_limit : (why : RunError E) → why ≡ error.StepLimit → limit < made + work_left works live.items → Fine works why limit made live
   fine_limit why is less = record { empty_batch = λ e. absurd (cc); empty_io = λ e. absurd (cc); republished = λ e. absurd (cc); waits_for_nothing = λ e. absurd (cc); step_limit = λ e. less; ids_exhausted = λ e. absurd (cc) }
 
-  fine_ids : (why : RunError E) → why ≡ error.IdsExhausted → 2 ^ 64 - 1 < live.next_owner + work_left works live.items → Fine works why limit made live
+  fine_ids : (why : RunError E) → why ≡ error.IdsExhausted → 2 ^ 64 < live.next_owner + work_left works live.items → Fine works why limit made live
   fine_ids why is less = record { empty_batch = λ e. absurd (cc); empty_io = λ e. absurd (cc); republished = λ e. absurd (cc); waits_for_nothing = λ e. absurd (cc); step_limit = λ e. absurd (cc); ids_exhausted = λ e. less }
 
 module _ {W S C E : Type 0} (works : Works W C E) (source : Ghosts S C) (payload : Meanings C) (laws : WorkIsOrderly payload.means works) (limit made : ℕ) where
@@ -93,12 +93,12 @@ module _ {W S C E : Type 0} (works : Works W C E) (source : Ghosts S C) (payload
 
   ask_fine : (root : RootId) (old new : Live W S) (why : RunError E) → Held works source payload laws old → AskFails works source payload root old new why → Fine works why limit made old
   ask_fine root old new why held f =
-      ⊎_elim (λ m. fine_memory works limit made old why m)
+      ⊎_elim (λ m. fine_memory works limit made old why m.0)
       (λ r. ⊎_elim (λ s. fine_source works limit made old why root s.0) (λ (m : PollMisses works source payload root old new why). deliver_fine root m.completion old why held m.fails) r) f
 
   wait_fine : (root : RootId) (old new : Live W S) (why : RunError E) → Held works source payload laws old → WaitFails works source payload root old new why → Fine works why limit made old
   wait_fine root old new why held f =
-      ⊎_elim (λ m. fine_memory works limit made old why m)
+      ⊎_elim (λ m. fine_memory works limit made old why m.0)
       (λ r. ⊎_elim (λ s. fine_source works limit made old why root s.0) (λ (m : WaitMisses works source payload root old new why). deliver_fine root m.completion old why held m.fails) r) f
 
   publish_fine : (batch : List IoRequest) (item : Item W) (asked : List IoRequest) (live old new : Live W S) (why : RunError E) (left : ℕ) (shown : State) → works.orderly item.work → item.asked ≡ as_fetches item.owner asked
@@ -114,7 +114,7 @@ module _ {W S C E : Type 0} (works : Works W C E) (source : Ghosts S C) (payload
       (λ w. absurd (laws.waits item.work orderly w.1 (no_fetches item.owner (works.asked item.work) (sym own' ∙ w.2)))) s) r) f
 
   follow_fine : (answer : Result (Output W) E) (item : Item W) (before : W) (live old new : Live W S) (why : RunError E) → works.orderly before → item.asked ≡ as_fetches item.owner (works.asked before) → works.computes before answer item.work
-      → 0 < work_left works live.items → old.next_owner ≡ live.next_owner → FollowFails works source answer item old new why → Fine works why limit made live
+      → works.work before ≤ work_left works live.items → old.next_owner ≡ live.next_owner → FollowFails works source answer item old new why → Fine works why limit made live
   follow_fine (Err failure) item before live old new why orderly own did some same f = fine_planner works limit made live why item.root failure f
   follow_fine (Ok output.Done) item before live old new why orderly own did some same f = absurd f
   follow_fine (Ok output.Continue) item before live old new why orderly own did some same f = absurd f
@@ -123,17 +123,25 @@ module _ {W S C E : Type 0} (works : Works W C E) (source : Ghosts S C) (payload
       ⊎_elim (λ m. fine_memory works limit made live why m)
       (λ p. publish_fine batch item (works.asked before) live old new why (works.work before) (works.state_is item.work) g.0 own g.1 p) f
   follow_fine (Ok (output.Child scope work)) item before live old new why orderly own did some same f =
-      ⊎_elim (λ m. fine_memory works limit made live why m) (λ e. fine_ids works limit made live why e.0 (let last = e.1 in omega (arith, last, some, same))) f
+      let g = laws.goes_on before (output.Child scope work) item.work orderly did in
+      let child = laws.some_work work g.1.0.0 in
+      let less = g.1.0.3 in
+      ⊎_elim (λ m. fine_memory works limit made live why m) (λ e. fine_ids works limit made live why e.0 (let last = e.1 in omega (arith, last, some, same, child, less))) f
   follow_fine (Ok (output.Batch array)) item before live old new why orderly own did some same f =
       let g = laws.goes_on before (output.Batch array) item.work orderly did in
       ⊎_elim (λ m. fine_memory works limit made live why m) (λ e. absurd (g.1.0 e.1)) f
+
+  own_left : (live : Live W S) (at : ℕ) (item : Item W) → slice_get live.items at ≡ Some item → works.work item.work ≤ work_left works live.items
+  own_left live at item there =
+      let sums = removed_sum (λ (item : Item W). works.work item.work) live.items at item there in
+      omega (arith, sums)
 
   some_left : (live : Live W S) (at : ℕ) (item : Item W) → IsOrderly works live → slice_get live.items at ≡ Some item → 0 < work_left works live.items
   some_left live at item each there =
       let o = each_at (ItemIsOrderly works) live.items at item each there in
       let some = laws.some_work item.work o.orderly in
-      let sums = removed_sum (λ (item : Item W). works.work item.work) live.items at item there in
-      omega (arith, some, sums)
+      let own = own_left live at item there in
+      omega (arith, some, own)
 
   visit_fine : (shown : State) (at : ℕ) (item : Item W) (old new : Live W S) (why : RunError E) → works.state_is item.work ≡ shown → item.ready ≡ true → slice_get old.items at ≡ Some item → Held works source payload laws old
       → VisitFails works source shown at item old new why → Fine works why limit made old
@@ -141,7 +149,7 @@ module _ {W S C E : Type 0} (works : Works W C E) (source : Ghosts S C) (payload
   visit_fine state.Waiting at item old new why shows ready there held f = absurd ((each_at (ItemIsOrderly works) old.items at item held.1 there).acts ready shows)
   visit_fine state.NeedsCompute at item old new why shows ready there held f =
       let o = each_at (ItemIsOrderly works) old.items at item held.1 there in
-      follow_fine f.0 (computed item f.1) item.work old (put at (computed item f.1) old) new why o.orderly o.asked f.2.computes (some_left old at item held.1 there) refl f.3
+      follow_fine f.0 (computed item f.1) item.work old (put at (computed item f.1) old) new why o.orderly o.asked f.2.computes (own_left old at item there) refl f.3
 
 module _ {W S C E : Type 0} (works : Works W C E) (source : Ghosts S C) (payload : Meanings C) (laws : WorkIsOrderly payload.means works) where
   broken_fine : (limit made : ℕ) (old new : Live W S) (why : RunError E) → Broken works source payload (Held works source payload laws) (Off works source payload laws) made limit old new why → Fine works why limit made old

@@ -1,7 +1,7 @@
 -- What orderly runs keep over whole calls, and in which order they give.
-use Rattle.std.proofs.Common.{◌≡◌, ◌≢◌, ℕ, ◌+◌, ◌≤◌, List, [], ◌∷◌, ◌++◌, refl, sym, ◌∙◌, ap, subst, Bool, true, false, cond, not, Option, None, Some, Ok, arith, filter}
+use Rattle.std.proofs.Common.{◌≡◌, ◌≢◌, ℕ, ◌≤◌, List, [], ◌∷◌, ◌++◌, refl, sym, ◌∙◌, ap, subst, Bool, true, false, cond, not, Option, None, Some, arith, filter}
 use Rattle.std.specs.Prelude.{slice_get, eqb, sum_by}
-use Rattle.std.specs.List.{AllByRecursion, remove}
+use Rattle.std.specs.List.{remove}
 use Rattle.std.proofs.Math.ListN.{set}
 use Rattle.std.proofs.lemmas.Bool.{eqb-true}
 use Rattle.std.proofs.lemmas.List.Sums.{sum_by-cons}
@@ -13,7 +13,6 @@ use Rattle.vortex_scan.specs.declared.errors.Progress.{Progress}
 use Rattle.vortex_scan.specs.declared.errors.Progress.TheVariants as progress
 use Rattle.vortex_scan.specs.declared.errors.RunError.{RunError}
 use Rattle.vortex_scan.specs.declared.errors.RunError.TheVariants as error
-use Rattle.vortex_scan.specs.declared.errors.Visited.{Visited}
 use Rattle.vortex_scan.specs.declared.errors.Visited.TheVariants as visited
 use Rattle.vortex_scan.specs.declared.item.Item.{Item}
 use Rattle.vortex_scan.specs.declared.item.Slot.{Slot}
@@ -24,13 +23,12 @@ use Rattle.vortex_scan.specs.declared.state.State.{State}
 use Rattle.vortex_scan.specs.declared.state.State.TheVariants as state
 use Rattle.vortex_scan.specs.declared.worker.Worker.{Ghosts as Works}
 use Rattle.vortex_scan.specs.Asking.{AsksOnce}
-use Rattle.vortex_scan.specs.Bag.{batches_of}
 use Rattle.vortex_scan.specs.Fits.{LiveFits}
 use Rattle.vortex_scan.specs.Going.{Advances}
-use Rattle.vortex_scan.specs.InOrder.{AddsWork, GivesInOrder, IsOrderly, IsOrderlyRoot, ItemIsOrderly, RefusesInOrder, StaysOrderly, WorksOff, as_fetches, work_left}
+use Rattle.vortex_scan.specs.InOrder.{GivesInOrder, IsOrderlyRoot, ItemIsOrderly, RefusesInOrder, StaysOrderly, WorksOff, as_fetches, work_left}
 use Rattle.vortex_scan.specs.Keys.{IsLeastReady, key, key_less}
 use Rattle.vortex_scan.specs.RunState.{Live, RunState, has_root, is_of_root, live_with, put}
-use Rattle.vortex_scan.specs.Steps.{Cancels, CancelsLive, Delivers, Follows, Retires, Settles, Visits, WaitsFor, computed, published}
+use Rattle.vortex_scan.specs.Steps.{Cancels, CancelsLive, Delivers, Follows, Settles, Visits, WaitsFor, computed, published}
 use Rattle.vortex_scan.proofs.Behaved.{Held, Off, delivers_orderly, distinct_all, worked_off}
 use Rattle.vortex_scan.proofs.Chains.{carry_advance, carry_once}
 use Rattle.vortex_scan.proofs.Ordering.{WorkIsOrderly}

@@ -4,6 +4,7 @@ use Rattle.std.specs.List.{list_any}
 use Rattle.std.proofs.Math.ListN.{set}
 use Rattle.vortex_io.specs.declared.payload.Payload.{Ghosts as Meanings}
 use Rattle.vortex_io.specs.declared.request.Completion.{Completion}
+use Rattle.vortex_io.specs.declared.request.IoError.{IoError}
 use Rattle.vortex_io.specs.declared.request.IoError.TheVariants as cause
 use Rattle.vortex_io.specs.declared.request.IoRequest.{IoRequest}
 use Rattle.vortex_io.specs.declared.source.IoSource.{Ghosts}
@@ -55,6 +56,31 @@ VisitFails works source state.Waiting at item old new why = (why ≡ error.Waits
 VisitFails {W} {S} {C} {E} works source state.NeedsCompute at item old new why =
     (answer : Result (Output W) E) × (work : W) × Computes works item.work answer work × FollowFails works source answer (computed item work) (put at (computed item work) old) new why
 
+-- What a visit that fails asks of the sources.
+
+-- the source of an item's root was given the batch that the item published, and took or refused it
+pub record IsGiven {W S C : Type 0} (source : Ghosts S C) (item : Item W) (batch : List IoRequest) (old new : List (Slot S)) : Type 0 where
+  pub slot : Slot S
+  pub there : slice_get old item.root.0 ≡ Some slot
+  pub answer : Result (Unit {0}) IoError
+  pub after : S
+  pub submits : Submits source item.owner batch answer slot.source after
+  pub now : new ≡ set old item.root.0 (record slot { source = after })
+
+-- no source was asked but for a batch that the item published
+abbrev pub FollowGives : {W S C E : Type 0} → Ghosts S C → Result (Output W) E → Item W → List (Slot S) → List (Slot S) → Type 0
+FollowGives source (Err failure) item old new = new ≡ old
+FollowGives source (Ok output.Done) item old new = new ≡ old
+FollowGives source (Ok output.Continue) item old new = new ≡ old
+FollowGives source (Ok (output.NeedsIO batch)) item old new = (new ≡ old) ⊎ IsGiven source item batch old new
+FollowGives source (Ok (output.Child scope work)) item old new = new ≡ old
+FollowGives source (Ok (output.Batch array)) item old new = new ≡ old
+
+abbrev pub VisitGives : {W S C E : Type 0} → Works W C E → Ghosts S C → State → Item W → List (Slot S) → List (Slot S) → Type 0
+VisitGives works source state.Done item old new = new ≡ old
+VisitGives works source state.Waiting item old new = new ≡ old
+VisitGives {W} {S} {C} {E} works source state.NeedsCompute item old new = (answer : Result (Output W) E) × (work : W) × Computes works item.work answer work × FollowGives source answer (computed item work) old new
+
 -- a parked item was handed its last result, and still waits
 pub record DeliversInVain {W C E : Type 0} (works : Works W C E) (root : RootId) (completion : Completion C) (old : List (Item W)) : Type 0 where
   pub at : ℕ
@@ -71,13 +97,13 @@ DeliverFails works root completion old why =
     ((why ≡ error.Protocol root completion.owner completion.request) × (list_any (expects root completion) old ≡ false))
     ⊎ ((why ≡ error.WaitsForNothing) × DeliversInVain works root completion old)
 
--- the source of a live root failed as it was polled
-pub record PollFaults {W S C : Type 0} (source : Ghosts S C) (payload : Meanings C) (root : RootId) (old new : Live W S) : Type 0 where
+-- the source of a live root refused as it was polled
+pub record PollRefused {W S C : Type 0} (source : Ghosts S C) (payload : Meanings C) (cause : IoError) (root : RootId) (old new : Live W S) : Type 0 where
   pub slot : Slot S
   pub there : slice_get old.slots root.0 ≡ Some slot
   pub live : slot.live ≡ true
   pub after : S
-  pub polls : Polls source payload (Err cause.Fault) slot.source after
+  pub polls : Polls source payload (Err cause) slot.source after
   pub now : new.slots ≡ set old.slots root.0 (record slot { source = after })
 
 -- what the source of a live root gave could not be delivered
@@ -94,15 +120,15 @@ pub record PollMisses {W S C E : Type 0} (works : Works W C E) (source : Ghosts 
 -- asking a live root's source fails
 abbrev pub AskFails : {W S C E : Type 0} → Works W C E → Ghosts S C → Meanings C → RootId → Live W S → Live W S → RunError E → Type 0
 AskFails works source payload root old new why =
-    (why ≡ error.OutOfMemory) ⊎ (((why ≡ error.Source root) × PollFaults source payload root old new) ⊎ PollMisses works source payload root old new why)
+    ((why ≡ error.OutOfMemory) × PollRefused source payload cause.OutOfMemory root old new) ⊎ (((why ≡ error.Source root) × PollRefused source payload cause.Fault root old new) ⊎ PollMisses works source payload root old new why)
 
--- the source of a live root failed as it was waited for
-pub record WaitFaults {W S C : Type 0} (source : Ghosts S C) (payload : Meanings C) (root : RootId) (old new : Live W S) : Type 0 where
+-- the source of a live root refused as it was waited for
+pub record WaitRefused {W S C : Type 0} (source : Ghosts S C) (payload : Meanings C) (cause : IoError) (root : RootId) (old new : Live W S) : Type 0 where
   pub slot : Slot S
   pub there : slice_get old.slots root.0 ≡ Some slot
   pub live : slot.live ≡ true
   pub after : S
-  pub waits : Waits source payload (Err cause.Fault) slot.source after
+  pub waits : Waits source payload (Err cause) slot.source after
   pub now : new.slots ≡ set old.slots root.0 (record slot { source = after })
 
 -- what the source of a live root gave could not be delivered
@@ -119,4 +145,4 @@ pub record WaitMisses {W S C E : Type 0} (works : Works W C E) (source : Ghosts 
 -- waiting for a live root's source fails
 abbrev pub WaitFails : {W S C E : Type 0} → Works W C E → Ghosts S C → Meanings C → RootId → Live W S → Live W S → RunError E → Type 0
 WaitFails works source payload root old new why =
-    (why ≡ error.OutOfMemory) ⊎ (((why ≡ error.Source root) × WaitFaults source payload root old new) ⊎ WaitMisses works source payload root old new why)
+    ((why ≡ error.OutOfMemory) × WaitRefused source payload cause.OutOfMemory root old new) ⊎ (((why ≡ error.Source root) × WaitRefused source payload cause.Fault root old new) ⊎ WaitMisses works source payload root old new why)

@@ -59,10 +59,11 @@ pub record RunFits {W S C : Type 0} (source : Ghosts S C) (run : RunState W S) :
   pub peopled : ArePeopled run.live
   pub since : visits_since run.since ≤ 64
 
--- what a run holds: room for all its sources, and until it fails, all that fits; and where its work tells what it owes, each number of a fetch names
--- one target
-pub record RunHolds {W S C : Type 0} (names : W → IoRequestId → Option IoTarget) (tells : Type 0) (source : Ghosts S C) (room : List S) (capacity : ℕ) (run : RunState W S) : Type 0 where
+-- what a run holds: room for all its sources, and until it fails, all that fits; where its work tells what it owes, each number of a fetch names
+-- one target; and where its work tells a plan, its items are planned
+pub record RunHolds {W S C : Type 0} (names : W → IoRequestId → Option IoTarget) (tells plans : Type 0) (ArePlanned : List (Item W) → Type 0) (source : Ghosts S C) (room : List S) (capacity : ℕ) (run : RunState W S) : Type 0 where
   pub none : room ≡ []
   pub enough : length run.live.slots ≤ capacity
   pub fits : run.failed ≡ false → RunFits source run
   pub named : tells → run.failed ≡ false → IsNamed names source run.live
+  pub planned : plans → run.failed ≡ false → ArePlanned run.live.items

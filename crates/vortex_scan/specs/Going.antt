@@ -12,7 +12,7 @@ use Rattle.vortex_scan.specs.declared.errors.Visited.TheVariants as visited
 use Rattle.vortex_scan.specs.declared.item.Item.{Item}
 use Rattle.vortex_scan.specs.declared.worker.Worker.{Ghosts as Works}
 use Rattle.vortex_scan.specs.Asking.{is_live, root_at}
-use Rattle.vortex_scan.specs.Fails.{AskFails, VisitFails}
+use Rattle.vortex_scan.specs.Fails.{AskFails, VisitFails, VisitGives}
 use Rattle.vortex_scan.specs.Keys.{IsLeastReady}
 use Rattle.vortex_scan.specs.RunState.{Live, NothingReady, RunState, live_with}
 use Rattle.vortex_scan.specs.declared.counts.Counts.{Counts}
@@ -108,6 +108,7 @@ pub record VisitLeastFails {W S C E : Type 0} (works : Works W C E) (source : Gh
   pub item : Item W
   pub least : IsLeastReady old.live.items at item
   pub fails : VisitFails works source (works.state_is item.work) at item old.live new.live why
+  pub gives : VisitGives works source (works.state_is item.work) item old.live.slots new.live.slots
   pub visits : new.visits ≡ old.visits + 1
   pub since : new.since ≡ option_map (λ visits. visits + 1) old.since
   pub sources : KeepsEach source old.live.slots new.live.slots

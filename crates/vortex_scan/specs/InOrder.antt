@@ -64,7 +64,7 @@ pub record RefusesInOrder {W S C E : Type 0} (works : Works W C E) (why : RunErr
   pub republished : why ≢ error.Republished
   pub waits_for_nothing : why ≢ error.WaitsForNothing
   pub step_limit : why ≡ error.StepLimit → old.limit < old.visits + work_left works old.live.items
-  pub ids_exhausted : why ≡ error.IdsExhausted → 2 ^ 64 - 1 < old.live.next_owner + work_left works old.live.items
+  pub ids_exhausted : why ≡ error.IdsExhausted → 2 ^ 64 < old.live.next_owner + work_left works old.live.items
 
 abbrev pub IsInOrder : {W S C E : Type 0} → Works W C E → RunError E → RunState W S → Type 0
 IsInOrder works why old = IsOrderly works old.live → RefusesInOrder works why old

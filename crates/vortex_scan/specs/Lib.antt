@@ -19,4 +19,6 @@ pub mod InStep
 pub mod Naming
 pub mod Bag
 pub mod InOrder
+pub mod Seats
 pub mod Ended
+pub mod Driving

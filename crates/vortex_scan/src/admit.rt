@@ -1,5 +1,5 @@
 // How a root joins.
-ghost use Rattle.std.specs.Prelude.{◌≡◌, ◌≢◌, ◌↔◌, ◌⊎◌, ℕ, ◌+◌, ◌-◌, ◌^◌, ◌≤◌, ◌++◌, ◌∷◌, [], true, false, length, Some, IfOk, MatchResult, vec_len, vec_capacity};
+ghost use Rattle.std.specs.Prelude.{◌≡◌, ◌≢◌, ◌↔◌, ◌⊎◌, ◌+◌, ◌-◌, ◌^◌, ◌≤◌, ◌++◌, ◌∷◌, [], true, false, length, Some, IfOk, MatchResult, vec_len, vec_capacity};
 ghost use Rattle.vortex_scan.specs.Calls.{IsRefusedFor};
 ghost use Rattle.vortex_scan.specs.Steps.{root_item};
 ghost use Rattle.vortex_scan.specs.declared.worker.Work.{Work};

@@ -1,6 +1,5 @@
 // Sources that are asked and waited for.
-ghost use Rattle.std.specs.Prelude.{◌≡◌, ◌≢◌, ℕ, ◌+◌, ◌<◌, ◌⊎◌, ◌||◌, [], true, false, length, slice_get, Some, Option, is_some, IfOk, IfErr, MatchOption};
-ghost use Rattle.std.proofs.Math.ListN.{set};
+ghost use Rattle.std.specs.Prelude.{◌≡◌, ℕ, ◌+◌, ◌<◌, ◌||◌, true, length, slice_get, Some, Option, is_some, IfOk, IfErr, MatchOption};
 ghost use Rattle.vortex_io.specs.declared.request.Completion.{Completion};
 ghost use Rattle.vortex_scan.specs.Steps.{Asks, WaitsFor};
 ghost use Rattle.vortex_scan.specs.Fails.{AskFails, WaitFails};

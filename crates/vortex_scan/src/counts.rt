@@ -1,5 +1,5 @@
 // The visits that a run makes.
-ghost use Rattle.std.specs.Prelude.{◌≡◌, ◌≤◌, IsTrue};
+ghost use Rattle.std.specs.Prelude.{◌≡◌};
 ghost use Rattle.vortex_scan.specs.Visits.{is_due};
 
 /// How many visits a run made, how many since it asked all sources, and how many it may make.

@@ -1,11 +1,10 @@
 // Results that come to items.
-ghost use Rattle.std.specs.Prelude.{◌≡◌, ◌≢◌, ◌↔◌, ℕ, ◌<◌, ◌⊎◌, ◌&&◌, List, ◌==◌, [], false, true, not, length, position, slice_get, Some, OnOk, IfErr, IfSome, IsTrue, MatchOption, MatchResult};
+ghost use Rattle.std.specs.Prelude.{◌≡◌, ◌↔◌, List, [], false, true, position, IsTrue, MatchResult};
 ghost use Rattle.std.specs.List.{list_any};
 ghost use Rattle.vortex_io.specs.declared.request.Fetch.{Fetch};
 ghost use Rattle.vortex_scan.specs.Fetching.{is_answer};
 ghost use Rattle.vortex_scan.specs.Steps.{Delivers, Hands, expects, handed};
 ghost use Rattle.vortex_scan.specs.Fails.{DeliverFails};
-ghost use Rattle.vortex_scan.specs.declared.item.Item.{Item};
 
 use crate::errors::RunError;
 use crate::item::Item;

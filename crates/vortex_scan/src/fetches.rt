@@ -1,5 +1,5 @@
 // The fetches that an item has published and was not given.
-ghost use Rattle.std.specs.Prelude.{◌≡◌, ◌==◌, ◌↔◌, ◌++◌, ◌∷◌, [], Some, true, false, length, map, position, remove, slice_get, IfOk, IfSome, IsTrue, MatchOption};
+ghost use Rattle.std.specs.Prelude.{◌≡◌, ◌==◌, ◌↔◌, ◌++◌, ◌∷◌, [], true, false, position, IsTrue};
 ghost use Rattle.std.specs.List.{list_any};
 ghost use Rattle.vortex_io.specs.Source.{Taken, fetches, is_of_kind};
 ghost use Rattle.vortex_io.specs.declared.request.Fetch.{Fetch};

@@ -14,7 +14,7 @@ pub trait Planner: IoConsumer + Sized {
     ghost use Rattle.vortex_scan.specs.declared.state.PlannerOutput.{PlannerOutput};
     ghost use Rattle.vortex_scan.specs.declared.state.State.{State};
     ghost use Rattle.vortex_scan.specs.Owed.{Entry, PlannerOwes};
-    ghost use Rattle.vortex_scan.specs.Orderly.{Children, PlannerIsOrderly};
+    ghost use Rattle.vortex_scan.specs.Orderly.{PlannerIsOrderly};
     ghost use Rattle.vortex_scan.specs.Plans.{Planned, PlannerFollowsPlan};
 
     /// Why a computation may fail.

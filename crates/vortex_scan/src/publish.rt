@@ -1,11 +1,11 @@
 // What an item asks of its root's source.
-ghost use Rattle.std.specs.Prelude.{◌≡◌, ◌≢◌, ℕ, ◌+◌, ◌<◌, ◌⊎◌, ◌++◌, [], false, true, length, slice_get, Some, Ok, Err, IfOk, IfErr, OnOk, MatchResult};
+ghost use Rattle.std.specs.Prelude.{◌≡◌, ◌≢◌, ℕ, ◌+◌, ◌<◌, ◌⊎◌, ◌++◌, [], false, true, length, slice_get, Some, Result, Ok, Err, IfOk, IfErr, OnOk, MatchResult};
 ghost use Rattle.std.proofs.Math.ListN.{set};
-ghost use Rattle.vortex_io.specs.Source.{fetches};
 ghost use Rattle.vortex_scan.specs.Fetching.{numbers};
 ghost use Rattle.vortex_scan.specs.Numbers.{repeats};
 ghost use Rattle.vortex_scan.specs.Steps.{Publishes, published};
-ghost use Rattle.vortex_scan.specs.Fails.{SubmitFaults};
+ghost use Rattle.vortex_io.specs.declared.request.IoError.{IoError};
+ghost use Rattle.vortex_scan.specs.Fails.{IsGiven, SubmitFaults};
 ghost use Rattle.vortex_scan.specs.Sources.{KeepsEach, Submits};
 ghost use Rattle.vortex_scan.specs.RunState.{live_with};
 ghost use Rattle.vortex_scan.specs.declared.item.Item.{Item};
@@ -43,6 +43,8 @@ fn submit_to<S: IoSource, E>(
         (after : S) × Submits S.IoSource owner batch (Ok tt) slot.source after × (slots.new.items ≡ set slots.old.items root.0 (record slot { source = after }))) }
     ensures err { IfErr result (λ error. (error ≡ RunError.OutOfMemory) ⊎ ((error ≡ RunError.Source root) × ((slot : Slot S) → slice_get slots.old.items root.0 ≡ Some slot →
         (after : S) × Submits S.IoSource owner batch (Err IoError.Fault) slot.source after × (slots.new.items ≡ set slots.old.items root.0 (record slot { source = after }))))) }
+    ensures given { IfErr result (λ _. (slot : Slot S) → slice_get slots.old.items root.0 ≡ Some slot → (cause : IoError)
+        × (after : S) × Submits S.IoSource owner batch (Err cause) slot.source after × (slots.new.items ≡ set slots.old.items root.0 (record slot { source = after }))) }
     ensures sources { KeepsEach S.IoSource slots.old.items slots.new.items }
 {
     let slot = &mut slots[root.0 as usize];
@@ -69,6 +71,7 @@ pub fn publish<W, S: IoSource, E>(
     ensures err { IfErr result (λ error. (item : Item W) (owners : ℕ) → slice_get items.old.items at ≡ Some item →
         (error ≡ RunError.OutOfMemory) ⊎ (((error ≡ RunError.EmptyIo) × (batch ≡ [])) ⊎ (((error ≡ RunError.Republished) × (repeats (numbers (published item batch).asked) ≡ true))
         ⊎ ((error ≡ RunError.Source item.root) × SubmitFaults S.IoSource item batch (live_with items.old.items slots.old.items owners) (live_with items.new.items slots.new.items owners))))) }
+    ensures given { IfErr result (λ _. (item : Item W) → slice_get items.old.items at ≡ Some item → (slots.new.items ≡ slots.old.items) ⊎ IsGiven S.IoSource item batch slots.old.items slots.new.items) }
     ensures sources { KeepsEach S.IoSource slots.old.items slots.new.items }
 {
     if batch.len() == 0 {

@@ -1,11 +1,9 @@
 // How items leave, and what their sources are told.
-ghost use Rattle.std.specs.Prelude.{◌≡◌, ℕ, ◌<◌, ◌&&◌, length, slice_get, Some, filter, not};
-ghost use Rattle.std.proofs.Math.ListN.{set};
+ghost use Rattle.std.specs.Prelude.{◌≡◌, ℕ, ◌<◌, ◌&&◌, length, slice_get, Some};
 ghost use Rattle.vortex_scan.specs.Steps.{ClearsLast, Retires};
-ghost use Rattle.vortex_scan.specs.Sources.{Clears, KeepsEach, Releases};
-ghost use Rattle.vortex_scan.specs.RunState.{has_root, is_of_root, live_with};
+ghost use Rattle.vortex_scan.specs.Sources.{KeepsEach, Releases};
+ghost use Rattle.vortex_scan.specs.RunState.{has_root, live_with};
 ghost use Rattle.vortex_scan.specs.declared.item.Item.{Item};
-ghost use Rattle.vortex_scan.specs.declared.item.Slot.{Slot};
 
 use crate::errors::Visited;
 use crate::item::{Item, Slot};

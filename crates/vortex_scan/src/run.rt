@@ -1,5 +1,6 @@
 // Runs, and what is asked of them.
 ghost use Rattle.std.specs.Prelude.{◌≡◌, ◌≢◌, ◌↔◌, ℕ, ◌+◌, ◌-◌, ◌^◌, ◌<◌, ◌≤◌, ◌⊎◌, ◌++◌, ◌∷◌, [], true, false, length, slice_get, Ok, Some, None, IfOk, IfErr, MatchResult, vec_len, vec_capacity};
+ghost use Rattle.std.specs.List.{AllByRecursion};
 ghost use Rattle.vortex_scan.specs.RunState.{Live, RunState, live_count, live_with, liveness, new_run};
 ghost use Rattle.vortex_scan.specs.Steps.{CancelsLive, Delivers, WaitsFor, admitted};
 ghost use Rattle.vortex_scan.specs.Fails.{DeliverFails, WaitFails};
@@ -7,6 +8,7 @@ ghost use Rattle.vortex_scan.specs.Asking.{AskingFails, AsksOnce, IsAsking, IsFi
 ghost use Rattle.vortex_scan.specs.Going.{Advances};
 ghost use Rattle.vortex_scan.specs.InOrder.{AddsWork, FailsAsPermitted, GivesInOrder, IsInOrder, IsOrderlyRoot, PermitsNoMore, PermitsNoMoreGiven, StaysOrderly, WorksOff};
 ghost use Rattle.vortex_scan.specs.InStep.{LiesByCause, StaysInStep};
+ghost use Rattle.vortex_scan.specs.Seats.{AddsNoWait, AddsNothing, AddsSeats, FaultsNoSure, IsBrought, IsTold, KeepsFresh, KeepsSeats, NoneFresh, SpendsAtMost, SpendsSeats, SurelyStands, TakesSeat, WaitsOnce, work_seats};
 ghost use Rattle.vortex_scan.specs.Sources.{ClearsEach, KeepsEach};
 ghost use Rattle.vortex_scan.specs.Visits.{asked_count};
 ghost use Rattle.vortex_scan.specs.Whole.{AreQuiet, AsksEnough, FailsByCause, IsAtRest, TellsRoots};
@@ -61,17 +63,19 @@ impl<P: Planner, S: IoSource<Payload = P::Payload>> Drop for Run<P, S> {
 }
 
 impl<P: Planner, S: IoSource<Payload = P::Payload>> Model for Run<P, S> {
-    ghost use Rattle.std.specs.Prelude.{◌≡◌, ◌≤◌, [], false, length, vec_capacity};
+    ghost use Rattle.std.specs.Prelude.{◌≡◌, [], false, length, vec_capacity};
     ghost use Rattle.vortex_scan.specs.declared.worker.Work.{Work};
     ghost use Rattle.vortex_scan.specs.RunState.{RunState, live_with};
     ghost use Rattle.vortex_scan.specs.Fits.{RunHolds};
-    ghost use Rattle.vortex_scan.specs.Works.{work_names};
+    ghost use Rattle.vortex_scan.specs.Seats.{ArePlanned, IsMorsel};
+    ghost use Rattle.vortex_scan.specs.Works.{work_names, work_state};
 
     ghost Value = { RunState (Work P P.Morsel) S };
 
     ghost view = { λ r. record { live = live_with r.items.items r.slots.items r.next_owner; next_root = r.next_root; visits = r.counts.visits; since = r.counts.since; limit = r.counts.limit; failed = r.failed } };
 
-    ghost invariant = { λ r. RunHolds (work_names P.names P.Morsel.names) (P.tells × P.Morsel.tells) S.IoSource r.room.items (vec_capacity r.room)
+    ghost invariant = { λ r. RunHolds (work_names P.names P.Morsel.names) (P.tells × P.Morsel.tells) (P.plans × P.Morsel.plans)
+        (ArePlanned (work_state P.state_is P.Morsel.state_is) IsMorsel) S.IoSource r.room.items (vec_capacity r.room)
         (record { live = live_with r.items.items r.slots.items r.next_owner; next_root = r.next_root; visits = r.counts.visits; since = r.counts.since; limit = r.counts.limit; failed = r.failed }) };
 }
 
@@ -112,6 +116,13 @@ impl<P: Planner, S: IoSource<Payload = P::Payload>> Run<P, S> {
         count_live(&self.slots)
     }
 
+    /// How many visits were made.
+    pub(crate) fn visits(&self) -> u64
+        ensures { result ≡ self.now.visits }
+    {
+        self.counts.visits
+    }
+
     /// Admits a root over its source. Nothing is outstanding there. On a refusal the run is as it was, and both come back.
     pub fn admit(&mut self, root: P, scope: WorkScope, io: S) -> Result<RootId, Refused<P, S>>
         requires idle { S.outstanding io ≡ [] }
@@ -121,6 +132,10 @@ impl<P: Planner, S: IoSource<Payload = P::Payload>> Run<P, S> {
         ensures bag { IfOk result (λ id. AddsToBag (work_owed P.owed P.Morsel.owed) id.0 scope (Work.Planner root) self.old.live self.new.live) }
         ensures orderly { IfOk result (λ _. IsOrderlyRoot ⟦<Work<P, P::Morsel> as Worker>⟧ (Work.Planner root) → StaysOrderly ⟦<Work<P, P::Morsel> as Worker>⟧ self.old.live self.new.live) }
         ensures work { IfOk result (λ _. AddsWork ⟦<Work<P, P::Morsel> as Worker>⟧ (Work.Planner root) self.old self.new) }
+        ensures seats { IfOk result (λ id. AddsSeats (work_seats P.plan P.Morsel.plan P.Morsel.fresh) id scope (Work.Planner root) self.old.live self.new.live) }
+        ensures fresh { IfOk result (λ _. KeepsFresh (λ _ _. Unit {0}) S.IoSource (work_seats P.plan P.Morsel.plan P.Morsel.fresh) self.old.live self.new.live) }
+        ensures journals { IfOk result (λ _. AddsNothing S.IoSource self.old.live.slots self.new.live.slots) }
+        ensures sure { IfOk result (λ _. FaultsNoSure S.IoSource self.old.live.slots self.new.live.slots) }
         ensures run_failed { IsRefusedFor AdmitError.RunFailed result ↔ (self.old.failed ≡ true) }
         ensures ids_exhausted { IsRefusedFor AdmitError.IdsExhausted result ↔ ((self.old.failed ≡ false) × ((self.old.next_root ≡ 2 ^ 64 - 1) ⊎ (self.old.live.next_owner ≡ 2 ^ 64 - 1))) }
     {
@@ -153,6 +168,9 @@ impl<P: Planner, S: IoSource<Payload = P::Payload>> Run<P, S> {
         ensures in_step { StaysInStep S.IoSource self.old.live self.new.live }
         ensures orderly { StaysOrderly ⟦<Work<P, P::Morsel> as Worker>⟧ self.old.live self.new.live }
         ensures work { WorksOff ⟦<Work<P, P::Morsel> as Worker>⟧ self.old self.new }
+        ensures seats { KeepsSeats (λ _ _. Unit {0}) (work_seats P.plan P.Morsel.plan P.Morsel.fresh) self.old.live self.new.live }
+        ensures journals { AddsNothing S.IoSource self.old.live.slots self.new.live.slots }
+        ensures sure { FaultsNoSure S.IoSource self.old.live.slots self.new.live.slots }
     {
         forget(&mut self.items, &mut self.slots, root);
     }
@@ -185,6 +203,9 @@ impl<P: Planner, S: IoSource<Payload = P::Payload>> Run<P, S> {
         ensures work { IfOk result (λ _. WorksOff ⟦<Work<P, P::Morsel> as Worker>⟧ self.old self.new) }
         ensures disorder { IfErr result (λ error. IsInOrder ⟦<Work<P, P::Morsel> as Worker>⟧ error self.old) }
         ensures permitted { P.tells → P.Morsel.tells → IfOk result (λ _. PermitsNoMoreGiven ⟦<Work<P, P::Morsel> as Worker>⟧ P.Payload.means root completion self.old.live self.new.live) }
+        ensures seats { P.plans → P.Morsel.plans → IfOk result (λ _. KeepsSeats (IsBrought (P.tells × P.Morsel.tells) P.Payload.means root completion self.old.live.items) (work_seats P.plan P.Morsel.plan P.Morsel.fresh) self.old.live self.new.live) }
+        ensures fetched { P.plans → P.Morsel.plans → IfOk result (λ _. SpendsSeats (IsBrought (P.tells × P.Morsel.tells) P.Payload.means root completion self.old.live.items) S.IoSource (work_seats P.plan P.Morsel.plan P.Morsel.fresh) self.old.live self.new.live) }
+        ensures fresh { P.plans → P.Morsel.plans → IfOk result (λ _. KeepsFresh (IsBrought (P.tells × P.Morsel.tells) P.Payload.means root completion self.old.live.items) S.IoSource (work_seats P.plan P.Morsel.plan P.Morsel.fresh) self.old.live self.new.live) }
     {
         if self.failed {
             return Err(RunError::RunFailed);
@@ -217,6 +238,11 @@ impl<P: Planner, S: IoSource<Payload = P::Payload>> Run<P, S> {
         ensures work { IfOk result (λ _. WorksOff ⟦<Work<P, P::Morsel> as Worker>⟧ self.old self.new) }
         ensures disorder { IfErr result (λ error. IsInOrder ⟦<Work<P, P::Morsel> as Worker>⟧ error self.old) }
         ensures permitted { P.tells → P.Morsel.tells → IfOk result (λ _. PermitsNoMore ⟦<Work<P, P::Morsel> as Worker>⟧ S.IoSource self.old.live self.new.live) }
+        ensures seats { P.plans → P.Morsel.plans → IfOk result (λ _. KeepsSeats (IsTold (P.tells × P.Morsel.tells) S.IoSource self.old.live.slots self.new.live.slots) (work_seats P.plan P.Morsel.plan P.Morsel.fresh) self.old.live self.new.live) }
+        ensures fetched { P.plans → P.Morsel.plans → IfOk result (λ _. SpendsSeats (IsTold (P.tells × P.Morsel.tells) S.IoSource self.old.live.slots self.new.live.slots) S.IoSource (work_seats P.plan P.Morsel.plan P.Morsel.fresh) self.old.live self.new.live) }
+        ensures fresh { P.plans → P.Morsel.plans → IfOk result (λ _. KeepsFresh (IsTold (P.tells × P.Morsel.tells) S.IoSource self.old.live.slots self.new.live.slots) S.IoSource (work_seats P.plan P.Morsel.plan P.Morsel.fresh) self.old.live self.new.live) }
+        ensures journals { AddsNothing S.IoSource self.old.live.slots self.new.live.slots }
+        ensures sure { FaultsNoSure S.IoSource self.old.live.slots self.new.live.slots }
     {
         if self.failed {
             return Err(RunError::RunFailed);
@@ -252,6 +278,11 @@ impl<P: Planner, S: IoSource<Payload = P::Payload>> Run<P, S> {
         ensures work { IfOk result (λ _. WorksOff ⟦<Work<P, P::Morsel> as Worker>⟧ self.old self.new) }
         ensures disorder { IfErr result (λ error. IsInOrder ⟦<Work<P, P::Morsel> as Worker>⟧ error self.old) }
         ensures permitted { P.tells → P.Morsel.tells → IfOk result (λ _. PermitsNoMore ⟦<Work<P, P::Morsel> as Worker>⟧ S.IoSource self.old.live self.new.live) }
+        ensures seats { P.plans → P.Morsel.plans → IfOk result (λ _. KeepsSeats (IsTold (P.tells × P.Morsel.tells) S.IoSource self.old.live.slots self.new.live.slots) (work_seats P.plan P.Morsel.plan P.Morsel.fresh) self.old.live self.new.live) }
+        ensures fetched { P.plans → P.Morsel.plans → IfOk result (λ _. SpendsSeats (IsTold (P.tells × P.Morsel.tells) S.IoSource self.old.live.slots self.new.live.slots) S.IoSource (work_seats P.plan P.Morsel.plan P.Morsel.fresh) self.old.live self.new.live) }
+        ensures fresh { P.plans → P.Morsel.plans → IfOk result (λ _. KeepsFresh (IsTold (P.tells × P.Morsel.tells) S.IoSource self.old.live.slots self.new.live.slots) S.IoSource (work_seats P.plan P.Morsel.plan P.Morsel.fresh) self.old.live self.new.live) }
+        ensures journals { WaitsOnce S.IoSource self.old.live.slots self.new.live.slots }
+        ensures sure { FaultsNoSure S.IoSource self.old.live.slots self.new.live.slots }
     {
         let Some(root) = first_asking(&self.items) else {
             unreachable!()
@@ -287,6 +318,14 @@ impl<P: Planner, S: IoSource<Payload = P::Payload>> Run<P, S> {
         ensures disorder { IfErr result (λ error. IsInOrder ⟦<Work<P, P::Morsel> as Worker>⟧ error self.old) }
         ensures permits { P.tells → P.Morsel.tells → IfErr result (λ error. FailsAsPermitted ⟦<Work<P, P::Morsel> as Worker>⟧ S.IoSource error self.old.live self.new.live) }
         ensures permitted { P.tells → P.Morsel.tells → IfOk result (λ _. PermitsNoMore ⟦<Work<P, P::Morsel> as Worker>⟧ S.IoSource self.old.live self.new.live) }
+        ensures seats { P.plans → P.Morsel.plans → IfOk result (λ _. KeepsSeats (IsTold (P.tells × P.Morsel.tells) S.IoSource self.old.live.slots self.new.live.slots) (work_seats P.plan P.Morsel.plan P.Morsel.fresh) self.old.live self.new.live) }
+        ensures seated { P.plans → P.Morsel.plans → IfOk result (λ answer. AllByRecursion (TakesSeat (IsTold (P.tells × P.Morsel.tells) S.IoSource self.old.live.slots self.new.live.slots) (work_seats P.plan P.Morsel.plan P.Morsel.fresh) P.Morsel.gives_such self.old.live) (batches_of answer)) }
+        ensures fetched { P.plans → P.Morsel.plans → IfOk result (λ _. SpendsSeats (IsTold (P.tells × P.Morsel.tells) S.IoSource self.old.live.slots self.new.live.slots) S.IoSource (work_seats P.plan P.Morsel.plan P.Morsel.fresh) self.old.live self.new.live) }
+        ensures fresh { P.plans → P.Morsel.plans → IfOk result (λ _. KeepsFresh (IsTold (P.tells × P.Morsel.tells) S.IoSource self.old.live.slots self.new.live.slots) S.IoSource (work_seats P.plan P.Morsel.plan P.Morsel.fresh) self.old.live self.new.live) }
+        ensures fetched_at_most { P.plans → P.Morsel.plans → IfErr result (λ _. SpendsAtMost (IsTold (P.tells × P.Morsel.tells) S.IoSource self.old.live.slots self.new.live.slots) S.IoSource (work_seats P.plan P.Morsel.plan P.Morsel.fresh) self.old.live self.new.live) }
+        ensures none_fresh { P.plans → P.Morsel.plans → IfOk result (λ answer. answer ≡ Progress.Waiting → NoneFresh (work_seats P.plan P.Morsel.plan P.Morsel.fresh) self.new.live.items) }
+        ensures journals { AddsNoWait S.IoSource self.old.live.slots self.new.live.slots }
+        ensures sure { P.plans → P.Morsel.plans → SurelyStands S.IoSource (work_seats P.plan P.Morsel.plan P.Morsel.fresh) self.old.live self.new.live.slots }
     {
         if self.failed {
             return Err(RunError::RunFailed);

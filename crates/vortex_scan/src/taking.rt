@@ -1,5 +1,5 @@
 // Roots that are cancelled, and sources that are handed back.
-ghost use Rattle.std.specs.Prelude.{◌≡◌, ℕ, ◌+◌, ◌≤◌, ◌++◌, [], false, not, filter, length, slice_get, vec_len, vec_capacity};
+ghost use Rattle.std.specs.Prelude.{◌≡◌, ℕ, ◌≤◌, [], false, not, filter, length, slice_get, vec_capacity};
 ghost use Rattle.vortex_scan.specs.RunState.{is_of_root, live_with};
 ghost use Rattle.vortex_scan.specs.Sources.{Clears, ClearsEach};
 ghost use Rattle.vortex_scan.specs.Steps.{CancelsLive};

@@ -1,5 +1,5 @@
 // One turn of taking a run forward, and as many as it takes.
-ghost use Rattle.std.specs.Prelude.{◌≡◌, ◌≢◌, ◌⊎◌, ℕ, ◌+◌, ◌<◌, ◌≤◌, option_map, [], true, false, length, slice_get, Some, None, IfOk, IfErr, MatchOption};
+ghost use Rattle.std.specs.Prelude.{◌≡◌, ◌≢◌, ◌⊎◌, ℕ, ◌+◌, ◌<◌, ◌≤◌, option_map, [], true, false, IfOk, IfErr};
 ghost use Rattle.vortex_scan.specs.Going.{AdvanceFails, Advances, AskingFailsThen, AsksIfDue, SomeReady, TurnFails, TurnsTo, VisitingFails, state_with};
 ghost use Rattle.vortex_scan.specs.Visits.{came_to, is_due};
 ghost use Rattle.vortex_scan.specs.Fits.{LiveFits, visits_since};

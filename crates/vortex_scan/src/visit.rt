@@ -1,14 +1,13 @@
 // One visit of an item.
-ghost use Rattle.std.specs.Prelude.{◌≡◌, ◌≢◌, ℕ, ◌+◌, ◌-◌, ◌^◌, ◌<◌, ◌≤◌, ◌⊎◌, ◌++◌, ◌∷◌, List, [], false, true, length, slice_get, Some, Ok, Err, Result, IfOk, IfErr};
+ghost use Rattle.std.specs.Prelude.{◌≡◌, ◌≢◌, ℕ, ◌+◌, ◌-◌, ◌^◌, ◌<◌, ◌≤◌, ◌⊎◌, ◌++◌, ◌∷◌, [], false, length, slice_get, Some, Ok, IfOk, IfErr};
 ghost use Rattle.std.proofs.Math.ListN.{set};
 ghost use Rattle.vortex_scan.specs.Fetching.{numbers};
 ghost use Rattle.vortex_scan.specs.Numbers.{repeats};
 ghost use Rattle.vortex_scan.specs.Steps.{Computes, Follows, Settles, Visits, child_of, computed};
-ghost use Rattle.vortex_scan.specs.Fails.{FollowFails, VisitFails};
+ghost use Rattle.vortex_scan.specs.Fails.{FollowFails, FollowGives, IsGiven, VisitFails, VisitGives};
 ghost use Rattle.vortex_scan.specs.Sources.{KeepsEach};
 ghost use Rattle.vortex_scan.specs.RunState.{live_with};
 ghost use Rattle.vortex_scan.specs.declared.item.Item.{Item};
-ghost use Rattle.vortex_scan.specs.declared.item.Slot.{Slot};
 ghost use Rattle.vortex_scan.specs.declared.state.State.{State};
 ghost use Rattle.vortex_scan.specs.declared.state.Output.{Output};
 
@@ -120,6 +119,7 @@ fn settle<W: Worker, S: IoSource<Payload = W::Payload>>(
         Settles S.IoSource (W.state_is item.work) at item (live_with items.old.items slots.old.items owners) (live_with items.new.items slots.new.items owners) answer) }
     ensures err { IfErr result (λ error. (item : Item W) → slice_get items.old.items at ≡ Some item →
         (error ≡ RunError.WaitsForNothing) × (W.state_is item.work ≡ State.Waiting) × (item.asked ≡ [])) }
+    ensures given { IfErr result (λ _. slots.new.items ≡ slots.old.items) }
     ensures sources { KeepsEach S.IoSource slots.old.items slots.new.items }
 {
     let item = &items[at];
@@ -150,6 +150,7 @@ fn ask_for<W: Worker, S: IoSource<Payload = W::Payload>>(
         Follows W.Worker S.IoSource (Output.NeedsIO batch) at item (live_with items.old.items slots.old.items owners) (live_with items.new.items slots.new.items owners) answer) }
     ensures err { IfErr result (λ error. (item : Item W) (owners : ℕ) → slice_get items.old.items at ≡ Some item →
         FollowFails W.Worker S.IoSource (Ok (Output.NeedsIO batch)) item (live_with items.old.items slots.old.items owners) (live_with items.new.items slots.new.items owners) error) }
+    ensures given { IfErr result (λ _. (item : Item W) → slice_get items.old.items at ≡ Some item → (slots.new.items ≡ slots.old.items) ⊎ IsGiven S.IoSource item batch slots.old.items slots.new.items) }
     ensures sources { KeepsEach S.IoSource slots.old.items slots.new.items }
 {
     publish(items, slots, at, batch)?;
@@ -220,6 +221,7 @@ fn follow<W: Worker, S: IoSource<Payload = W::Payload>>(
         Follows W.Worker S.IoSource output at item (live_with items.old.items slots.old.items next_owner.old) (live_with items.new.items slots.new.items next_owner.new) answer) }
     ensures err { IfErr result (λ error. (item : Item W) → slice_get items.old.items at ≡ Some item →
         FollowFails W.Worker S.IoSource (Ok output) item (live_with items.old.items slots.old.items next_owner.old) (live_with items.new.items slots.new.items next_owner.new) error) }
+    ensures given { IfErr result (λ _. (item : Item W) → slice_get items.old.items at ≡ Some item → FollowGives {E = W.Error} S.IoSource (Ok output) item slots.old.items slots.new.items) }
     ensures sources { KeepsEach S.IoSource slots.old.items slots.new.items }
 {
     match output {
@@ -247,6 +249,8 @@ pub fn visit<W: Worker, S: IoSource<Payload = W::Payload>>(
         Visits W.Worker S.IoSource (W.state_is item.work) at item (live_with items.old.items slots.old.items next_owner.old) (live_with items.new.items slots.new.items next_owner.new) answer) }
     ensures err { IfErr result (λ error. (item : Item W) → slice_get items.old.items at ≡ Some item →
         VisitFails W.Worker S.IoSource (W.state_is item.work) at item (live_with items.old.items slots.old.items next_owner.old) (live_with items.new.items slots.new.items next_owner.new) error) }
+    ensures given { IfErr result (λ _. (item : Item W) → slice_get items.old.items at ≡ Some item →
+        VisitGives W.Worker S.IoSource (W.state_is item.work) item slots.old.items slots.new.items) }
     ensures sources { KeepsEach S.IoSource slots.old.items slots.new.items }
 {
     let item = &items[at];

@@ -6,12 +6,26 @@ mod arrivals;
 #[cfg(test)]
 mod calls;
 #[cfg(test)]
+mod drained;
+#[cfg(test)]
+mod drivers;
+#[cfg(test)]
 mod errors;
+#[cfg(test)]
+mod lister;
 #[cfg(test)]
 mod orders;
 #[cfg(test)]
+mod owing;
+#[cfg(test)]
 mod pieces;
+#[cfg(test)]
+mod reader;
 #[cfg(test)]
 mod running;
 #[cfg(test)]
 mod scarce;
+#[cfg(test)]
+mod surveyor;
+#[cfg(test)]
+mod waiter;

@@ -209,7 +209,6 @@ impl IoConsumer for Piece {
 }
 
 impl Morsel for Piece {
-    ghost use Rattle.std.specs.Prelude.{false};
     ghost use Rattle.vortex_scan.specs.Orderly.{unordered_morsel};
 
     type Error = Failure;

@@ -2,10 +2,10 @@
 ghost use Rattle.std.specs.Prelude.{◌≡◌, ℕ, [], false, IfOk};
 ghost use Rattle.vortex_scan.specs.Asking.{IsAsking};
 
-use crate::pieces::{Cell, Failure, Order, Told, planner_of};
+use crate::pieces::{Cell, Order, Told, planner_of};
 use std::alloc::{AllocError, Global};
 use vortex_io::{Arrive, IoSource, MemorySource};
-use vortex_scan::{Batch, Progress, RootId, Run, RunError, WorkScope};
+use vortex_scan::{Batch, Planner, Progress, RootId, Run, RunError, WorkScope};
 
 pub type Runs = Run<Told, MemorySource<Cell>>;
 
@@ -65,8 +65,8 @@ fn note_number(alloc: Global, log: &mut String, number: u64) -> Result<(), Alloc
     log.push_str(text.as_str())
 }
 
-// Notes a batch by its place and its number of rows, as `0.1.=3`.
-fn note_batch(alloc: Global, log: &mut String, batch: &Batch) -> Result<bool, AllocError> {
+/// Notes a batch by its place and its number of rows, as `0.1.=3`.
+pub fn note_batch(alloc: Global, log: &mut String, batch: &Batch) -> Result<bool, AllocError> {
     for number in batch.place().as_slice() {
         note_number(alloc, log, *number)?;
     }
@@ -77,7 +77,7 @@ fn note_batch(alloc: Global, log: &mut String, batch: &Batch) -> Result<bool, Al
 }
 
 /// Why a run refused, by one word.
-pub fn word(error: &RunError<Failure>) -> &'static str {
+pub fn word<E>(error: &RunError<E>) -> &'static str {
     match error {
         RunError::RunFailed => "failed",
         RunError::Source(_) => "source",
@@ -95,7 +95,7 @@ pub fn word(error: &RunError<Failure>) -> &'static str {
 }
 
 // Notes why a run refused. Nothing more is to come.
-fn note_refusal(log: &mut String, error: &RunError<Failure>) -> Result<bool, AllocError> {
+fn note_refusal<E>(log: &mut String, error: &RunError<E>) -> Result<bool, AllocError> {
     log.push_str(word(error))?;
     Ok(false)
 }
@@ -121,8 +121,8 @@ fn note(alloc: Global, log: &mut String, progress: Progress) -> Result<bool, All
 }
 
 // Waits for a source. The answer is whether there is more to come.
-fn wait<S: IoSource<Payload = Cell>>(
-    run: &mut Run<Told, S>,
+fn wait<P: Planner<Payload = Cell>, S: IoSource<Payload = Cell>>(
+    run: &mut Run<P, S>,
     log: &mut String,
 ) -> Result<bool, AllocError>
     requires well { run.old.failed ≡ false }
@@ -135,9 +135,9 @@ fn wait<S: IoSource<Payload = Cell>>(
 }
 
 // Goes on once, waits where it has to, and notes what came. The answer is whether there is more to come.
-fn go_on<S: IoSource<Payload = Cell>>(
+fn go_on<P: Planner<Payload = Cell>, S: IoSource<Payload = Cell>>(
     alloc: Global,
-    run: &mut Run<Told, S>,
+    run: &mut Run<P, S>,
     log: &mut String,
 ) -> Result<bool, AllocError> {
     match run.advance() {
@@ -148,7 +148,11 @@ fn go_on<S: IoSource<Payload = Cell>>(
 }
 
 /// Goes on once and notes what came.
-pub fn note_next(alloc: Global, run: &mut Runs, log: &mut String) -> Result<bool, AllocError> {
+pub fn note_next<P: Planner<Payload = Cell>, S: IoSource<Payload = Cell>>(
+    alloc: Global,
+    run: &mut Run<P, S>,
+    log: &mut String,
+) -> Result<bool, AllocError> {
     match run.advance() {
         Ok(progress) => note(alloc, log, progress),
         Err(error) => note_refusal(log, &error),
@@ -156,9 +160,9 @@ pub fn note_next(alloc: Global, run: &mut Runs, log: &mut String) -> Result<bool
 }
 
 /// Notes what a run gives until nothing is live or it is refused.
-pub fn end_into<S: IoSource<Payload = Cell>>(
+pub fn end_into<P: Planner<Payload = Cell>, S: IoSource<Payload = Cell>>(
     alloc: Global,
-    run: &mut Run<Told, S>,
+    run: &mut Run<P, S>,
     log: &mut String,
 ) -> Result<(), AllocError> {
     for _ in 0..500u64 {
@@ -170,9 +174,9 @@ pub fn end_into<S: IoSource<Payload = Cell>>(
 }
 
 /// Whether a run gives this until nothing is live or it is refused.
-pub fn ended_as<S: IoSource<Payload = Cell>>(
+pub fn ended_as<P: Planner<Payload = Cell>, S: IoSource<Payload = Cell>>(
     alloc: Global,
-    run: &mut Run<Told, S>,
+    run: &mut Run<P, S>,
     expected: &str,
 ) -> Result<bool, AllocError> {
     let mut log = String::new(alloc);

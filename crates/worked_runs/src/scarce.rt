@@ -1,5 +1,5 @@
 // A source that finds no memory.
-ghost use Rattle.std.specs.Prelude.{◌≡◌, [], IfErr};
+ghost use Rattle.std.specs.Prelude.{◌≡◌, IfErr};
 
 use crate::pieces::{Cell, Kind, Order, Told, planner_of};
 use crate::running::{cells, ended_as, no_rows};

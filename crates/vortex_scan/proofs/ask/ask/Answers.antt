@@ -55,3 +55,10 @@ returns-in-Err-Fault-clause-err g c = λ owners.
     let live = c.requires.live c.index_mut-slot.result.now there in
     let polls = rw c.in-Err-Fault.field-0-is at c.in-Err-Fault.ensures in
     inr (inl (refl, record { slot = c.index_mut-slot.result.now; there = there; live = live; after = c.poll.new.source; polls = polls; now = refl }))
+
+pub returns-in-Err-OutOfMemory-clause-err : goal.returns-in-Err-OutOfMemory-clause-err
+returns-in-Err-OutOfMemory-clause-err g c = λ owners.
+    let there : slice_get c.args.slots.now.items c.args.root.0 ≡ Some c.index_mut-slot.result.now = slice_get_read _ _ _ _ refl c.requires.in_range c.index_mut-slot.ensures.value in
+    let live = c.requires.live c.index_mut-slot.result.now there in
+    let polls = rw c.in-Err-OutOfMemory.field-0-is at c.in-Err-OutOfMemory.ensures in
+    inl (refl, record { slot = c.index_mut-slot.result.now; there = there; live = live; after = c.poll.new.source; polls = polls; now = refl })

@@ -1,6 +1,6 @@
 use Rattle.std.proofs.Common.{◌≢◌, ◌∙◌, ap, length, [], Ok, refl, inl, inr}
 use Rattle.vortex_scan.proofs.Kept.{each_same}
-use Rattle.vortex_scan.proofs.Leaving.{known_root, publishes, read_published, submit_faults}
+use Rattle.vortex_scan.proofs.Leaving.{given_in_vain, known_root, publishes, read_published, submit_faults}
 use Rattle.vortex_scan.proofs.Outcomes.{if_err, if_ok}
 use Rattle.vortex_scan.proofs.Places.{some_at}
 use Rattle.vortex_scan.proofs.publish.publish.Goals as goal
@@ -39,3 +39,10 @@ returns-clause-err g c =
     let noted = rw c.as_slice.ensures at (c.in-Ok.ensures.noted (ap (λ b. Ok b) c.if-not-noted.false) item at) in
     submit_faults g.S.IoSource c.args.at owners item c.index-item.result.now c.args.batch c.args.items.now.items c.note.new.items.items c.args.slots.now.items c.submit_to.new.slots.items
     (read_published c.args.at item c.args.items.now.items c.note.new.items.items c.args.batch c.index-item.result.now at noted c.index-item.ensures) (c.requires.known item at) why fails) c.submit_to.ensures.err
+
+pub returns-clause-given : goal.returns-clause-given
+returns-clause-given g c =
+    if_err _ _ c.submit_to.result (λ why given. λ item at.
+    let noted = rw c.as_slice.ensures at (c.in-Ok.ensures.noted (ap (λ b. Ok b) c.if-not-noted.false) item at) in
+    inr (given_in_vain g.S.IoSource item c.index-item.result.now c.args.batch c.args.slots.now.items c.submit_to.new.slots.items
+    (read_published c.args.at item c.args.items.now.items c.note.new.items.items c.args.batch c.index-item.result.now at noted c.index-item.ensures) (c.requires.known item at) given)) c.submit_to.ensures.given

@@ -2,7 +2,7 @@ use Rattle.std.proofs.Common.{ap, inl, inr, refl}
 use Rattle.vortex_scan.specs.Going.{state_with}
 use Rattle.vortex_scan.specs.declared.counts.Counts.{Counts}
 use Rattle.vortex_scan.proofs.Kept.{each_same}
-use Rattle.vortex_scan.proofs.Outcomes.{if_err, if_ok}
+use Rattle.vortex_scan.proofs.Outcomes.{if_err_both, if_ok}
 use Rattle.vortex_scan.proofs.Turning.{since_more}
 use Rattle.vortex_scan.proofs.turn.visit_least.Goals as goal
 
@@ -27,7 +27,7 @@ returns-clause-ok g c =
 
 pub returns-clause-err : goal.returns-clause-err
 returns-clause-err g c =
-    if_err _ _ c.visit.result (λ why fails. λ roots.
+    if_err_both _ _ _ c.visit.result (λ why fails given. λ roots.
     let l = c.requires.least in
     inr (record {
       room = c.if-counts.false;
@@ -35,10 +35,11 @@ returns-clause-err g c =
       item = l.0;
       least = l.1;
       fails = fails l.0 l.1.there;
+      gives = given l.0 l.1.there;
       visits = ap (λ (k : Counts). k.visits) c.count_visit.ensures;
       since = ap (λ (k : Counts). k.since) c.count_visit.ensures;
       sources = c.visit.ensures.sources;
-    })) c.visit.ensures.err
+    })) c.visit.ensures.err c.visit.ensures.given
 
 pub returns-clause-since : goal.returns-clause-since
 returns-clause-since g c = rw c.count_visit.ensures (since_more c.args.counts.now.since c.requires.since)

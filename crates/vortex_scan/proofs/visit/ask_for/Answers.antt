@@ -5,7 +5,7 @@ use Rattle.vortex_scan.specs.Steps.{published}
 use Rattle.vortex_scan.proofs.Outcomes.{if_err, if_ok}
 use Rattle.vortex_scan.proofs.Places.{some_at}
 use Rattle.vortex_scan.proofs.Kept.{each_on, each_long}
-use Rattle.vortex_scan.proofs.Leaving.{items_published, there_published}
+use Rattle.vortex_scan.proofs.Leaving.{given_once, items_published, there_published}
 use Rattle.vortex_scan.proofs.visit.ask_for.Goals as goal
 
 pub settle-requires-clause-in_range : goal.settle-requires-clause-in_range
@@ -40,3 +40,9 @@ returns-clause-err g c =
 
 pub returns-clause-sources : goal.returns-clause-sources
 returns-clause-sources g c = each_on g.S.IoSource c.args.slots.now.items c.publish.new.slots.items c.settle.new.slots.items c.in_ok-publish.ensures.sources c.settle.ensures.sources
+
+pub returns-clause-given : goal.returns-clause-given
+returns-clause-given g c =
+    if_err _ _ c.settle.result (λ why same. λ item at.
+    let p = c.in_ok-publish.ensures.ok item 0 at in
+    inr (rw same (given_once g.S.IoSource c.args.at item c.args.batch c.args.items.now.items c.publish.new.items.items c.args.slots.now.items c.publish.new.slots.items 0 p))) c.settle.ensures.given

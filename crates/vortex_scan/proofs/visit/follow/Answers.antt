@@ -43,3 +43,15 @@ returns-in-Batch-clause-ok g c =
 pub returns-in-Batch-clause-err : goal.returns-in-Batch-clause-err
 returns-in-Batch-clause-err g c =
     rw c.in-Batch.is (if_err _ _ c.give.result (λ why fails. λ item at. fails) c.give.ensures.err)
+
+pub returns-in-NeedsIO-clause-given : goal.returns-in-NeedsIO-clause-given
+returns-in-NeedsIO-clause-given g c =
+    rw c.in-NeedsIO.is (if_err _ _ c.ask_for.result (λ why given. λ item at. given item at) c.ask_for.ensures.given)
+
+pub returns-in-Child-clause-given : goal.returns-in-Child-clause-given
+returns-in-Child-clause-given g c =
+    rw c.in-Child.is (if_err _ _ c.emit.result (λ why fails. λ item at. refl) c.emit.ensures.err)
+
+pub returns-in-Batch-clause-given : goal.returns-in-Batch-clause-given
+returns-in-Batch-clause-given g c =
+    rw c.in-Batch.is (if_err _ _ c.give.result (λ why fails. λ item at. refl) c.give.ensures.err)

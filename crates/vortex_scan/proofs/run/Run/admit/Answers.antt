@@ -9,6 +9,10 @@ use Rattle.vortex_scan.proofs.Joining.{admit_stays, not_failed}
 use Rattle.vortex_scan.proofs.Named.{admit_named}
 use Rattle.vortex_scan.proofs.Rooted.{admit_peopled}
 use Rattle.vortex_scan.proofs.WholeOrder.{admit_orderly}
+use Rattle.vortex_scan.specs.Seats.{work_seats}
+use Rattle.vortex_scan.proofs.Noting.{admit_adds_nothing}
+use Rattle.vortex_scan.proofs.Planned.{admit_planned}
+use Rattle.vortex_scan.proofs.RestingSeats.{admit_fresh, admit_seats}
 use Rattle.vortex_scan.proofs.run.Run.admit.Goals as goal
 
 pub invariant_of-self : goal.invariant_of-self
@@ -30,6 +34,7 @@ invariant_of-self g c =
           };
       named = λ told well. rw (did.0, did.1) (admit_named _ g.S.IoSource c.self.inside.items.items c.self.inside.slots.items c.self.inside.next_owner (record { source = c.args.io; live = true })
           (root_item c.self.inside.next_root c.self.inside.next_owner c.args.scope (Planner c.args.root)) c.requires.idle refl refl (c.self.invariant.named told well));
+      planned = λ told well. rw did.1 (admit_planned _ _ c.self.inside.items.items (root_item c.self.inside.next_root c.self.inside.next_owner c.args.scope (Planner c.args.root)) refl refl (c.self.invariant.planned told well));
     }
 
 pub invariant_of-self-in-Err : goal.invariant_of-self-in-Err
@@ -40,6 +45,7 @@ invariant_of-self-in-Err g c =
       enough = rw did.0 (omega (arith, c.self.invariant.enough, c.admit_root.ensures.less));
       fits = λ well. rw (did.0, did.1) (c.self.invariant.fits well);
       named = λ told well. rw (did.0, did.1) (c.self.invariant.named told well);
+      planned = λ told well. rw did.1 (c.self.invariant.planned told well);
     }
 
 pub returns-in-Ok-clause-in_step : goal.returns-in-Ok-clause-in_step
@@ -65,3 +71,23 @@ pub returns-in-Ok-clause-work : goal.returns-in-Ok-clause-work
 returns-in-Ok-clause-work g c =
     let did = c.in-Ok.ensures.ok in
     rw (← c.self.view_is, did.1) (refl, refl, sum_by_push _ c.self.inside.items.items (root_item c.self.inside.next_root c.self.inside.next_owner c.args.scope (Planner c.args.root)))
+
+pub returns-in-Ok-clause-seats : goal.returns-in-Ok-clause-seats
+returns-in-Ok-clause-seats g c =
+    let did = c.in-Ok.ensures.ok in
+    rw (← c.self.view_is, did.1) (admit_seats (work_seats g.P.Planner.plan g.P.Morsel.Morsel.plan g.P.Morsel.Morsel.fresh) c.self.inside.items.items c.self.inside.slots.items (c.self.inside.slots.items ++ record { source = c.args.io; live = true } ∷ []) c.self.inside.next_owner (c.self.inside.next_owner + 1) c.self.inside.next_root c.args.scope (Planner c.args.root))
+
+pub returns-in-Ok-clause-fresh : goal.returns-in-Ok-clause-fresh
+returns-in-Ok-clause-fresh g c =
+    let did = c.in-Ok.ensures.ok in
+    rw (← c.self.view_is, did.1) (admit_fresh g.S.IoSource (work_seats g.P.Planner.plan g.P.Morsel.Morsel.plan g.P.Morsel.Morsel.fresh) c.self.inside.items.items (root_item c.self.inside.next_root c.self.inside.next_owner c.args.scope (Planner c.args.root)) c.self.inside.slots.items c.admit_root.new.slots.items c.self.inside.next_owner (c.self.inside.next_owner + 1))
+
+pub returns-in-Ok-clause-journals : goal.returns-in-Ok-clause-journals
+returns-in-Ok-clause-journals g c =
+    let did = c.in-Ok.ensures.ok in
+    rw (← c.self.view_is, did.0) ((admit_adds_nothing g.S.IoSource c.self.inside.slots.items (record { source = c.args.io; live = true })).0)
+
+pub returns-in-Ok-clause-sure : goal.returns-in-Ok-clause-sure
+returns-in-Ok-clause-sure g c =
+    let did = c.in-Ok.ensures.ok in
+    rw (← c.self.view_is, did.0) ((admit_adds_nothing g.S.IoSource c.self.inside.slots.items (record { source = c.args.io; live = true })).1)

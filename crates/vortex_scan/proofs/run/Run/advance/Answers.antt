@@ -1,5 +1,6 @@
-use Rattle.std.proofs.Common.{◌≡◌, ◌∙◌, refl, inr, ap, Ok}
+use Rattle.std.proofs.Common.{◌≡◌, ◌∙◌, refl, inr, ap, None, Ok}
 use Rattle.vortex_scan.specs.declared.errors.Progress.TheVariants.{Idle}
+use Rattle.vortex_scan.specs.Asking.{root_at}
 use Rattle.vortex_scan.specs.Bag.{work_owed}
 use Rattle.vortex_scan.specs.Going.{state_with}
 use Rattle.vortex_scan.specs.RunState.{live_with}
@@ -9,7 +10,7 @@ use Rattle.vortex_scan.proofs.Expecting.{advance_lies}
 use Rattle.vortex_scan.proofs.Faulting.{advance_cause}
 use Rattle.vortex_scan.proofs.Idling.{fails_with_items, idle_exactly}
 use Rattle.vortex_scan.proofs.Kept.{each_long, each_same}
-use Rattle.vortex_scan.proofs.Owing.{work_owes}
+use Rattle.vortex_scan.proofs.Owing.{publishes_by, work_owes}
 use Rattle.vortex_scan.proofs.Paying.{advances_enough, enough_same, fails_enough}
 use Rattle.vortex_scan.proofs.Quieting.{at_rest}
 use Rattle.vortex_scan.proofs.Rooted.{advances_peopled, advances_tell}
@@ -18,6 +19,11 @@ use Rattle.vortex_scan.proofs.WholeOrder.{advance_gives, advance_orderly, failed
 use Rattle.vortex_scan.proofs.Ordering.{work_orderly}
 use Rattle.vortex_scan.proofs.Refusing.{advance_in_order}
 use Rattle.vortex_scan.proofs.Permitted.{advance_fails_permitted, advance_permits_less}
+use Rattle.vortex_scan.proofs.FailedSeats.{advance_spends_at_most, failed_stands, same_spends_at_most}
+use Rattle.vortex_scan.proofs.Noting.{advance_adds_no_wait, failed_adds_no_wait, same_adds_no_wait, same_faults_no_sure}
+use Rattle.vortex_scan.proofs.Planning.{work_plans}
+use Rattle.vortex_scan.proofs.RestingSeats.{waiting_none_fresh}
+use Rattle.vortex_scan.proofs.WholeSeats.{advance_passed, keeps_fresh, keeps_seats, spends_seats, surely_stands, takes_seats}
 use Rattle.vortex_scan.proofs.run.Run.advance.Goals as goal
 
 pub returns-then-self-clause-sources : goal.returns-then-self-clause-sources
@@ -54,13 +60,18 @@ invariant_of-self g c =
           };
       named = λ told well. (advance_bag _ g.S.IoSource _ _ (work_owes _ _ _ _ _ _ _ _ _ _ _ (g.met.P.Planner.owes told.0) (g.met.P.Morsel.Morsel.owes told.1)) (state_with c.self.inside.items.items c.self.inside.slots.items c.self.inside.next_owner c.self.inside.counts c.self.inside.next_root)
           (state_with c.go_on.new.items.items c.go_on.new.slots.items c.go_on.new.next_owner c.go_on.new.counts c.self.inside.next_root) c.in-Ok.answer (inv.fits well).live (inv.named told well) (c.in-Ok.ensures.ok c.self.inside.next_root)).0;
+      planned = λ told well.
+          let plans = told.0 in
+          let morsels = told.1 in
+          (advance_passed _ g.S.IoSource _ _ _ _ (work_plans _ _ _ _ _ _ _ _ _ _ _ _ _ (g.met.P.Planner.follows_plan plans) (g.met.P.Morsel.Morsel.follows_plan morsels)) (g.P.Planner.tells × g.P.Morsel.Morsel.tells) (λ t. publishes_by _ _ _ _ _ _ _ _ _ _ _ (g.met.P.Planner.owes t.0) (g.met.P.Morsel.Morsel.owes t.1)) (root_at 0) None (state_with c.self.inside.items.items c.self.inside.slots.items c.self.inside.next_owner c.self.inside.counts c.self.inside.next_root) (state_with c.go_on.new.items.items c.go_on.new.slots.items c.go_on.new.next_owner c.go_on.new.counts c.self.inside.next_root) c.in-Ok.answer
+          ((inv.fits well).live, (λ t. inv.named t well), inv.planned told well) (c.in-Ok.ensures.ok c.self.inside.next_root)).0.2;
     }
 
 pub invariant_of-self-in-Err : goal.invariant_of-self-in-Err
 invariant_of-self-in-Err g c =
     let inv = c.self.invariant in
     let long = each_long g.S.IoSource c.self.inside.slots.items c.go_on.new.slots.items c.go_on.ensures.sources in
-    record { none = inv.none; enough = rw long inv.enough; fits = λ well. absurd (cc); named = λ told well. absurd (cc) }
+    record { none = inv.none; enough = rw long inv.enough; fits = λ well. absurd (cc); named = λ told well. absurd (cc); planned = λ told well. absurd (cc) }
 
 pub returns-in-Ok-clause-ok : goal.returns-in-Ok-clause-ok
 returns-in-Ok-clause-ok g c = rw (← c.self.view_is, c.if-self.false) (refl, c.in-Ok.ensures.ok c.self.inside.next_root)
@@ -148,3 +159,54 @@ pub returns-in-Ok-clause-permitted : goal.returns-in-Ok-clause-permitted
 returns-in-Ok-clause-permitted g c = rw (← c.self.view_is) (λ planners morsels.
     advance_permits_less _ g.S.IoSource _ (work_orderly _ _ _ _ _ _ _ _ _ _ _ _ _ _ _ _ _ _ _ g.met.P.Planner.is_orderly g.met.P.Morsel.Morsel.is_orderly) _ (work_owes _ _ _ _ _ _ _ _ _ _ _ (g.met.P.Planner.owes planners) (g.met.P.Morsel.Morsel.owes morsels)) (state_with c.self.inside.items.items c.self.inside.slots.items c.self.inside.next_owner c.self.inside.counts c.self.inside.next_root)
     (state_with c.go_on.new.items.items c.go_on.new.slots.items c.go_on.new.next_owner c.go_on.new.counts c.self.inside.next_root) c.in-Ok.answer (c.self.invariant.fits c.if-self.false).live (c.self.invariant.named (planners, morsels) c.if-self.false) (c.in-Ok.ensures.ok c.self.inside.next_root))
+
+pub returns-in-Ok-clause-seats : goal.returns-in-Ok-clause-seats
+returns-in-Ok-clause-seats g c = rw (← c.self.view_is) (λ plans morsels.
+    keeps_seats g.S.IoSource _ _ _ _ _ _ (λ root told. (advance_passed _ g.S.IoSource _ _ _ _ (work_plans _ _ _ _ _ _ _ _ _ _ _ _ _ (g.met.P.Planner.follows_plan plans) (g.met.P.Morsel.Morsel.follows_plan morsels)) (g.P.Planner.tells × g.P.Morsel.Morsel.tells) (λ t. publishes_by _ _ _ _ _ _ _ _ _ _ _ (g.met.P.Planner.owes t.0) (g.met.P.Morsel.Morsel.owes t.1)) root told (state_with c.self.inside.items.items c.self.inside.slots.items c.self.inside.next_owner c.self.inside.counts c.self.inside.next_root) (state_with c.go_on.new.items.items c.go_on.new.slots.items c.go_on.new.next_owner c.go_on.new.counts c.self.inside.next_root) c.in-Ok.answer ((c.self.invariant.fits c.if-self.false).live, (λ t. c.self.invariant.named t c.if-self.false), c.self.invariant.planned (plans, morsels) c.if-self.false) (c.in-Ok.ensures.ok c.self.inside.next_root)).1))
+
+pub returns-in-Ok-clause-seated : goal.returns-in-Ok-clause-seated
+returns-in-Ok-clause-seated g c = rw (← c.self.view_is) (λ plans morsels.
+    takes_seats (g.P.Planner.tells × g.P.Morsel.Morsel.tells) g.S.IoSource _ _ _ _ c.in-Ok.answer (λ root told. (advance_passed _ g.S.IoSource _ _ _ _ (work_plans _ _ _ _ _ _ _ _ _ _ _ _ _ (g.met.P.Planner.follows_plan plans) (g.met.P.Morsel.Morsel.follows_plan morsels)) (g.P.Planner.tells × g.P.Morsel.Morsel.tells) (λ t. publishes_by _ _ _ _ _ _ _ _ _ _ _ (g.met.P.Planner.owes t.0) (g.met.P.Morsel.Morsel.owes t.1)) root told (state_with c.self.inside.items.items c.self.inside.slots.items c.self.inside.next_owner c.self.inside.counts c.self.inside.next_root) (state_with c.go_on.new.items.items c.go_on.new.slots.items c.go_on.new.next_owner c.go_on.new.counts c.self.inside.next_root) c.in-Ok.answer ((c.self.invariant.fits c.if-self.false).live, (λ t. c.self.invariant.named t c.if-self.false), c.self.invariant.planned (plans, morsels) c.if-self.false) (c.in-Ok.ensures.ok c.self.inside.next_root)).1))
+
+pub returns-in-Ok-clause-fetched : goal.returns-in-Ok-clause-fetched
+returns-in-Ok-clause-fetched g c = rw (← c.self.view_is) (λ plans morsels.
+    spends_seats g.S.IoSource _ _ _ _ _ _ (λ root told. (advance_passed _ g.S.IoSource _ _ _ _ (work_plans _ _ _ _ _ _ _ _ _ _ _ _ _ (g.met.P.Planner.follows_plan plans) (g.met.P.Morsel.Morsel.follows_plan morsels)) (g.P.Planner.tells × g.P.Morsel.Morsel.tells) (λ t. publishes_by _ _ _ _ _ _ _ _ _ _ _ (g.met.P.Planner.owes t.0) (g.met.P.Morsel.Morsel.owes t.1)) root told (state_with c.self.inside.items.items c.self.inside.slots.items c.self.inside.next_owner c.self.inside.counts c.self.inside.next_root) (state_with c.go_on.new.items.items c.go_on.new.slots.items c.go_on.new.next_owner c.go_on.new.counts c.self.inside.next_root) c.in-Ok.answer ((c.self.invariant.fits c.if-self.false).live, (λ t. c.self.invariant.named t c.if-self.false), c.self.invariant.planned (plans, morsels) c.if-self.false) (c.in-Ok.ensures.ok c.self.inside.next_root)).1))
+
+pub returns-in-Ok-clause-fresh : goal.returns-in-Ok-clause-fresh
+returns-in-Ok-clause-fresh g c = rw (← c.self.view_is) (λ plans morsels.
+    keeps_fresh g.S.IoSource _ _ _ _ _ _ (λ root told. (advance_passed _ g.S.IoSource _ _ _ _ (work_plans _ _ _ _ _ _ _ _ _ _ _ _ _ (g.met.P.Planner.follows_plan plans) (g.met.P.Morsel.Morsel.follows_plan morsels)) (g.P.Planner.tells × g.P.Morsel.Morsel.tells) (λ t. publishes_by _ _ _ _ _ _ _ _ _ _ _ (g.met.P.Planner.owes t.0) (g.met.P.Morsel.Morsel.owes t.1)) root told (state_with c.self.inside.items.items c.self.inside.slots.items c.self.inside.next_owner c.self.inside.counts c.self.inside.next_root) (state_with c.go_on.new.items.items c.go_on.new.slots.items c.go_on.new.next_owner c.go_on.new.counts c.self.inside.next_root) c.in-Ok.answer ((c.self.invariant.fits c.if-self.false).live, (λ t. c.self.invariant.named t c.if-self.false), c.self.invariant.planned (plans, morsels) c.if-self.false) (c.in-Ok.ensures.ok c.self.inside.next_root)).1))
+
+pub returns-then-self-clause-fetched_at_most : goal.returns-then-self-clause-fetched_at_most
+returns-then-self-clause-fetched_at_most g c = rw (← c.self.view_is) (λ plans morsels.
+    same_spends_at_most _ g.S.IoSource _ (live_with c.self.inside.items.items c.self.inside.slots.items c.self.inside.next_owner))
+
+pub returns-in-Err-clause-fetched_at_most : goal.returns-in-Err-clause-fetched_at_most
+returns-in-Err-clause-fetched_at_most g c = rw (← c.self.view_is) (λ plans morsels.
+    advance_spends_at_most _ g.S.IoSource _ _ _ _ (work_plans _ _ _ _ _ _ _ _ _ _ _ _ _ (g.met.P.Planner.follows_plan plans) (g.met.P.Morsel.Morsel.follows_plan morsels)) (g.P.Planner.tells × g.P.Morsel.Morsel.tells) (λ t. publishes_by _ _ _ _ _ _ _ _ _ _ _ (g.met.P.Planner.owes t.0) (g.met.P.Morsel.Morsel.owes t.1)) (state_with c.self.inside.items.items c.self.inside.slots.items c.self.inside.next_owner c.self.inside.counts c.self.inside.next_root)
+    (state_with c.go_on.new.items.items c.go_on.new.slots.items c.go_on.new.next_owner c.go_on.new.counts c.self.inside.next_root) c.in-Err.error ((c.self.invariant.fits c.if-self.false).live, (λ t. c.self.invariant.named t c.if-self.false), c.self.invariant.planned (plans, morsels) c.if-self.false) (c.in-Err.ensures.err c.self.inside.next_root))
+
+pub returns-in-Ok-clause-none_fresh : goal.returns-in-Ok-clause-none_fresh
+returns-in-Ok-clause-none_fresh g c = λ plans morsels e.
+    waiting_none_fresh _ g.S.IoSource _ _ _ _ (work_plans _ _ _ _ _ _ _ _ _ _ _ _ _ (g.met.P.Planner.follows_plan plans) (g.met.P.Morsel.Morsel.follows_plan morsels)) (g.P.Planner.tells × g.P.Morsel.Morsel.tells) (λ t. publishes_by _ _ _ _ _ _ _ _ _ _ _ (g.met.P.Planner.owes t.0) (g.met.P.Morsel.Morsel.owes t.1)) (state_with c.self.inside.items.items c.self.inside.slots.items c.self.inside.next_owner c.self.inside.counts c.self.inside.next_root)
+    (state_with c.go_on.new.items.items c.go_on.new.slots.items c.go_on.new.next_owner c.go_on.new.counts c.self.inside.next_root) c.in-Ok.answer ((c.self.invariant.fits c.if-self.false).live, (λ t. c.self.invariant.named t c.if-self.false), c.self.invariant.planned (plans, morsels) c.if-self.false) (c.in-Ok.ensures.ok c.self.inside.next_root) e
+
+pub returns-then-self-clause-journals : goal.returns-then-self-clause-journals
+returns-then-self-clause-journals g c = same_adds_no_wait g.S.IoSource _
+
+pub returns-in-Ok-clause-journals : goal.returns-in-Ok-clause-journals
+returns-in-Ok-clause-journals g c = rw (← c.self.view_is) (advance_adds_no_wait _ g.S.IoSource _ (state_with c.self.inside.items.items c.self.inside.slots.items c.self.inside.next_owner c.self.inside.counts c.self.inside.next_root) (state_with c.go_on.new.items.items c.go_on.new.slots.items c.go_on.new.next_owner c.go_on.new.counts c.self.inside.next_root) c.in-Ok.answer (c.in-Ok.ensures.ok c.self.inside.next_root))
+
+pub returns-in-Err-clause-journals : goal.returns-in-Err-clause-journals
+returns-in-Err-clause-journals g c = rw (← c.self.view_is) (failed_adds_no_wait _ g.S.IoSource _ (state_with c.self.inside.items.items c.self.inside.slots.items c.self.inside.next_owner c.self.inside.counts c.self.inside.next_root) (state_with c.go_on.new.items.items c.go_on.new.slots.items c.go_on.new.next_owner c.go_on.new.counts c.self.inside.next_root) c.in-Err.error (c.in-Err.ensures.err c.self.inside.next_root))
+
+pub returns-then-self-clause-sure : goal.returns-then-self-clause-sure
+returns-then-self-clause-sure g c = λ plans morsels root before after content there now sure is all. same_faults_no_sure g.S.IoSource _ root before after content there now sure is
+
+pub returns-in-Ok-clause-sure : goal.returns-in-Ok-clause-sure
+returns-in-Ok-clause-sure g c = rw (← c.self.view_is) (λ plans morsels.
+    surely_stands g.S.IoSource _ _ _ _ _ (λ root. (advance_passed _ g.S.IoSource _ _ _ _ (work_plans _ _ _ _ _ _ _ _ _ _ _ _ _ (g.met.P.Planner.follows_plan plans) (g.met.P.Morsel.Morsel.follows_plan morsels)) (g.P.Planner.tells × g.P.Morsel.Morsel.tells) (λ t. publishes_by _ _ _ _ _ _ _ _ _ _ _ (g.met.P.Planner.owes t.0) (g.met.P.Morsel.Morsel.owes t.1)) root None (state_with c.self.inside.items.items c.self.inside.slots.items c.self.inside.next_owner c.self.inside.counts c.self.inside.next_root) (state_with c.go_on.new.items.items c.go_on.new.slots.items c.go_on.new.next_owner c.go_on.new.counts c.self.inside.next_root) c.in-Ok.answer ((c.self.invariant.fits c.if-self.false).live, (λ t. c.self.invariant.named t c.if-self.false), c.self.invariant.planned (plans, morsels) c.if-self.false) (c.in-Ok.ensures.ok c.self.inside.next_root)).1 tt))
+
+pub returns-in-Err-clause-sure : goal.returns-in-Err-clause-sure
+returns-in-Err-clause-sure g c = rw (← c.self.view_is) (λ plans morsels.
+    failed_stands _ g.S.IoSource _ _ _ _ (work_plans _ _ _ _ _ _ _ _ _ _ _ _ _ (g.met.P.Planner.follows_plan plans) (g.met.P.Morsel.Morsel.follows_plan morsels)) (g.P.Planner.tells × g.P.Morsel.Morsel.tells) (λ t. publishes_by _ _ _ _ _ _ _ _ _ _ _ (g.met.P.Planner.owes t.0) (g.met.P.Morsel.Morsel.owes t.1)) (state_with c.self.inside.items.items c.self.inside.slots.items c.self.inside.next_owner c.self.inside.counts c.self.inside.next_root)
+    (state_with c.go_on.new.items.items c.go_on.new.slots.items c.go_on.new.next_owner c.go_on.new.counts c.self.inside.next_root) c.in-Err.error ((c.self.invariant.fits c.if-self.false).live, (λ t. c.self.invariant.named t c.if-self.false), c.self.invariant.planned (plans, morsels) c.if-self.false) (c.in-Err.ensures.err c.self.inside.next_root))

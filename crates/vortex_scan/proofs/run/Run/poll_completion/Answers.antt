@@ -1,4 +1,4 @@
-use Rattle.std.proofs.Common.{◌≢◌, ◌∙◌, refl, inr, length, ap}
+use Rattle.std.proofs.Common.{◌≢◌, ◌∙◌, refl, inr, length, ap, None}
 use Rattle.vortex_scan.specs.RunState.{live_count, live_with}
 use Rattle.vortex_scan.proofs.Asked.{asks_once_fits}
 use Rattle.vortex_scan.proofs.Bagged.{once_bag}
@@ -6,7 +6,7 @@ use Rattle.vortex_scan.proofs.Delivered.{asks_once_stays}
 use Rattle.vortex_scan.proofs.Expecting.{asking_lies}
 use Rattle.vortex_scan.proofs.Faulting.{asking_cause}
 use Rattle.vortex_scan.proofs.Kept.{each_long, each_same}
-use Rattle.vortex_scan.proofs.Owing.{work_owes}
+use Rattle.vortex_scan.proofs.Owing.{publishes_by, work_owes}
 use Rattle.vortex_scan.proofs.Polling.{once_are_quiet, once_fewer, once_items}
 use Rattle.vortex_scan.proofs.Rooted.{asks_once_same, peopled_same}
 use Rattle.vortex_scan.proofs.WholeOrder.{failed_in_order, once_orderly, rootless_in_order}
@@ -14,6 +14,10 @@ use Rattle.vortex_scan.proofs.Ordering.{work_orderly}
 use Rattle.vortex_scan.specs.Going.{state_with}
 use Rattle.vortex_scan.proofs.Refusing.{asking_in_order}
 use Rattle.vortex_scan.proofs.Permitted.{once_permits_less}
+use Rattle.vortex_scan.specs.Asking.{root_at}
+use Rattle.vortex_scan.proofs.Noting.{asking_adds_nothing, once_adds_nothing, same_adds_nothing, same_faults_no_sure}
+use Rattle.vortex_scan.proofs.Planning.{work_plans}
+use Rattle.vortex_scan.proofs.WholeSeats.{keeps_fresh, keeps_seats, once_passed, spends_seats}
 use Rattle.vortex_scan.proofs.run.Run.poll_completion.Goals as goal
 
 pub returns-then-self-clause-sources : goal.returns-then-self-clause-sources
@@ -40,13 +44,18 @@ invariant_of-self g c =
           };
       named = λ told well. (once_bag _ g.S.IoSource _ _ (work_owes _ _ _ _ _ _ _ _ _ _ _ (g.met.P.Planner.owes told.0) (g.met.P.Morsel.Morsel.owes told.1)) (length c.self.inside.slots.items) (live_with c.self.inside.items.items c.self.inside.slots.items c.self.inside.next_owner)
           (live_with c.ask_once.new.items.items c.ask_once.new.slots.items c.self.inside.next_owner) c.in-Ok.came (inv.fits well).live (inv.named told well) (c.in-Ok.ensures.ok c.self.inside.next_owner)).0;
+      planned = λ told well.
+          let plans = told.0 in
+          let morsels = told.1 in
+          (once_passed _ g.S.IoSource _ _ _ _ (work_plans _ _ _ _ _ _ _ _ _ _ _ _ _ (g.met.P.Planner.follows_plan plans) (g.met.P.Morsel.Morsel.follows_plan morsels)) (g.P.Planner.tells × g.P.Morsel.Morsel.tells) (λ t. publishes_by _ _ _ _ _ _ _ _ _ _ _ (g.met.P.Planner.owes t.0) (g.met.P.Morsel.Morsel.owes t.1)) (root_at 0) None (length c.self.inside.slots.items) (live_with c.self.inside.items.items c.self.inside.slots.items c.self.inside.next_owner) (live_with c.ask_once.new.items.items c.ask_once.new.slots.items c.self.inside.next_owner) c.in-Ok.came
+          ((inv.fits well).live, (λ t. inv.named t well), inv.planned told well) (c.in-Ok.ensures.ok c.self.inside.next_owner)).0.2;
     }
 
 pub invariant_of-self-in-Err : goal.invariant_of-self-in-Err
 invariant_of-self-in-Err g c =
     let inv = c.self.invariant in
     let long = each_long g.S.IoSource c.self.inside.slots.items c.ask_once.new.slots.items c.ask_once.ensures.sources in
-    record { none = inv.none; enough = rw long inv.enough; fits = λ well. absurd (cc); named = λ told well. absurd (cc) }
+    record { none = inv.none; enough = rw long inv.enough; fits = λ well. absurd (cc); named = λ told well. absurd (cc); planned = λ told well. absurd (cc) }
 
 pub returns-in-Ok-clause-ok : goal.returns-in-Ok-clause-ok
 returns-in-Ok-clause-ok g c =
@@ -120,3 +129,39 @@ pub returns-in-Ok-clause-permitted : goal.returns-in-Ok-clause-permitted
 returns-in-Ok-clause-permitted g c = rw (← c.self.view_is) (λ planners morsels.
     once_permits_less _ g.S.IoSource _ (work_orderly _ _ _ _ _ _ _ _ _ _ _ _ _ _ _ _ _ _ _ g.met.P.Planner.is_orderly g.met.P.Morsel.Morsel.is_orderly) _ (work_owes _ _ _ _ _ _ _ _ _ _ _ (g.met.P.Planner.owes planners) (g.met.P.Morsel.Morsel.owes morsels)) (length c.self.inside.slots.items) (live_with c.self.inside.items.items c.self.inside.slots.items c.self.inside.next_owner)
     (live_with c.ask_once.new.items.items c.ask_once.new.slots.items c.self.inside.next_owner) c.in-Ok.came (c.self.invariant.fits c.if-self.false).live (c.self.invariant.named (planners, morsels) c.if-self.false) (c.in-Ok.ensures.ok c.self.inside.next_owner))
+
+pub returns-in-Ok-clause-seats : goal.returns-in-Ok-clause-seats
+returns-in-Ok-clause-seats g c = rw (← c.self.view_is) (λ plans morsels.
+    keeps_seats g.S.IoSource _ _ _ _ _ _ (λ root told. (once_passed _ g.S.IoSource _ _ _ _ (work_plans _ _ _ _ _ _ _ _ _ _ _ _ _ (g.met.P.Planner.follows_plan plans) (g.met.P.Morsel.Morsel.follows_plan morsels)) (g.P.Planner.tells × g.P.Morsel.Morsel.tells) (λ t. publishes_by _ _ _ _ _ _ _ _ _ _ _ (g.met.P.Planner.owes t.0) (g.met.P.Morsel.Morsel.owes t.1)) root told (length c.self.inside.slots.items) (live_with c.self.inside.items.items c.self.inside.slots.items c.self.inside.next_owner) (live_with c.ask_once.new.items.items c.ask_once.new.slots.items c.self.inside.next_owner) c.in-Ok.came ((c.self.invariant.fits c.if-self.false).live, (λ t. c.self.invariant.named t c.if-self.false), c.self.invariant.planned (plans, morsels) c.if-self.false) (c.in-Ok.ensures.ok c.self.inside.next_owner)).1))
+
+pub returns-in-Ok-clause-fetched : goal.returns-in-Ok-clause-fetched
+returns-in-Ok-clause-fetched g c = rw (← c.self.view_is) (λ plans morsels.
+    spends_seats g.S.IoSource _ _ _ _ _ _ (λ root told. (once_passed _ g.S.IoSource _ _ _ _ (work_plans _ _ _ _ _ _ _ _ _ _ _ _ _ (g.met.P.Planner.follows_plan plans) (g.met.P.Morsel.Morsel.follows_plan morsels)) (g.P.Planner.tells × g.P.Morsel.Morsel.tells) (λ t. publishes_by _ _ _ _ _ _ _ _ _ _ _ (g.met.P.Planner.owes t.0) (g.met.P.Morsel.Morsel.owes t.1)) root told (length c.self.inside.slots.items) (live_with c.self.inside.items.items c.self.inside.slots.items c.self.inside.next_owner) (live_with c.ask_once.new.items.items c.ask_once.new.slots.items c.self.inside.next_owner) c.in-Ok.came ((c.self.invariant.fits c.if-self.false).live, (λ t. c.self.invariant.named t c.if-self.false), c.self.invariant.planned (plans, morsels) c.if-self.false) (c.in-Ok.ensures.ok c.self.inside.next_owner)).1))
+
+pub returns-in-Ok-clause-fresh : goal.returns-in-Ok-clause-fresh
+returns-in-Ok-clause-fresh g c = rw (← c.self.view_is) (λ plans morsels.
+    keeps_fresh g.S.IoSource _ _ _ _ _ _ (λ root told. (once_passed _ g.S.IoSource _ _ _ _ (work_plans _ _ _ _ _ _ _ _ _ _ _ _ _ (g.met.P.Planner.follows_plan plans) (g.met.P.Morsel.Morsel.follows_plan morsels)) (g.P.Planner.tells × g.P.Morsel.Morsel.tells) (λ t. publishes_by _ _ _ _ _ _ _ _ _ _ _ (g.met.P.Planner.owes t.0) (g.met.P.Morsel.Morsel.owes t.1)) root told (length c.self.inside.slots.items) (live_with c.self.inside.items.items c.self.inside.slots.items c.self.inside.next_owner) (live_with c.ask_once.new.items.items c.ask_once.new.slots.items c.self.inside.next_owner) c.in-Ok.came ((c.self.invariant.fits c.if-self.false).live, (λ t. c.self.invariant.named t c.if-self.false), c.self.invariant.planned (plans, morsels) c.if-self.false) (c.in-Ok.ensures.ok c.self.inside.next_owner)).1))
+
+pub returns-then-self-clause-journals : goal.returns-then-self-clause-journals
+returns-then-self-clause-journals g c = same_adds_nothing g.S.IoSource _
+
+pub returns-then-count_live-eq0-clause-journals : goal.returns-then-count_live-eq0-clause-journals
+returns-then-count_live-eq0-clause-journals g c = same_adds_nothing g.S.IoSource _
+
+pub returns-in-Ok-clause-journals : goal.returns-in-Ok-clause-journals
+returns-in-Ok-clause-journals g c = rw (← c.self.view_is) ((once_adds_nothing _ g.S.IoSource _ (length c.self.inside.slots.items) (live_with c.self.inside.items.items c.self.inside.slots.items c.self.inside.next_owner) (live_with c.ask_once.new.items.items c.ask_once.new.slots.items c.self.inside.next_owner) c.in-Ok.came (c.in-Ok.ensures.ok c.self.inside.next_owner)).0)
+
+pub returns-in-Err-clause-journals : goal.returns-in-Err-clause-journals
+returns-in-Err-clause-journals g c = rw (← c.self.view_is) ((asking_adds_nothing _ g.S.IoSource _ (live_with c.self.inside.items.items c.self.inside.slots.items c.self.inside.next_owner) (live_with c.ask_once.new.items.items c.ask_once.new.slots.items c.self.inside.next_owner) c.in-Err.error (c.in-Err.ensures.err c.self.inside.next_owner)).0)
+
+pub returns-then-self-clause-sure : goal.returns-then-self-clause-sure
+returns-then-self-clause-sure g c = same_faults_no_sure g.S.IoSource _
+
+pub returns-then-count_live-eq0-clause-sure : goal.returns-then-count_live-eq0-clause-sure
+returns-then-count_live-eq0-clause-sure g c = same_faults_no_sure g.S.IoSource _
+
+pub returns-in-Ok-clause-sure : goal.returns-in-Ok-clause-sure
+returns-in-Ok-clause-sure g c = rw (← c.self.view_is) ((once_adds_nothing _ g.S.IoSource _ (length c.self.inside.slots.items) (live_with c.self.inside.items.items c.self.inside.slots.items c.self.inside.next_owner) (live_with c.ask_once.new.items.items c.ask_once.new.slots.items c.self.inside.next_owner) c.in-Ok.came (c.in-Ok.ensures.ok c.self.inside.next_owner)).1)
+
+pub returns-in-Err-clause-sure : goal.returns-in-Err-clause-sure
+returns-in-Err-clause-sure g c = rw (← c.self.view_is) ((asking_adds_nothing _ g.S.IoSource _ (live_with c.self.inside.items.items c.self.inside.slots.items c.self.inside.next_owner) (live_with c.ask_once.new.items.items c.ask_once.new.slots.items c.self.inside.next_owner) c.in-Err.error (c.in-Err.ensures.err c.self.inside.next_owner)).1)

@@ -8,13 +8,17 @@ use Rattle.vortex_scan.proofs.Expecting.{wait_lies}
 use Rattle.vortex_scan.proofs.Faulting.{wait_cause}
 use Rattle.vortex_scan.proofs.Kept.{each_long}
 use Rattle.vortex_scan.proofs.Named.{waits_named}
-use Rattle.vortex_scan.proofs.Owing.{work_owes}
+use Rattle.vortex_scan.proofs.Owing.{publishes_by, work_owes}
 use Rattle.vortex_scan.proofs.Rooted.{peopled_same, waits_same}
 use Rattle.vortex_scan.proofs.WholeOrder.{wait_orderly}
 use Rattle.vortex_scan.proofs.Ordering.{work_orderly}
 use Rattle.vortex_scan.specs.Going.{state_with}
 use Rattle.vortex_scan.proofs.Refusing.{wait_in_order}
 use Rattle.vortex_scan.proofs.Permitted.{wait_permits_less}
+use Rattle.vortex_scan.proofs.Noting.{wait_fails_once, wait_once}
+use Rattle.vortex_scan.proofs.Planned.{delivers_planned}
+use Rattle.vortex_scan.proofs.Planning.{work_plans}
+use Rattle.vortex_scan.proofs.WholeSeats.{keeps_fresh, keeps_seats, spends_seats, wait_passed}
 use Rattle.vortex_scan.proofs.run.Run.wait_any.Goals as goal
 
 pub unreachable-requires : goal.unreachable-requires
@@ -61,13 +65,17 @@ invariant_of-self g c =
             since = f.since;
           };
       named = λ told well. waits_named _ g.S.IoSource _ c.in-Some.root (live_with c.self.inside.items.items c.self.inside.slots.items c.self.inside.next_owner) (live_with c.wait_for.new.items.items c.wait_for.new.slots.items c.self.inside.next_owner) (inv.named told well) (c.in-Ok.ensures.ok c.self.inside.next_owner);
+      planned = λ told well.
+          let plans = told.0 in
+          let morsels = told.1 in
+          delivers_planned _ _ g.S.IoSource _ _ _ (work_plans _ _ _ _ _ _ _ _ _ _ _ _ _ (g.met.P.Planner.follows_plan plans) (g.met.P.Morsel.Morsel.follows_plan morsels)) c.in-Some.root (c.in-Ok.ensures.ok c.self.inside.next_owner).completion c.self.inside.items.items c.wait_for.new.items.items (inv.planned told well) (c.in-Ok.ensures.ok c.self.inside.next_owner).delivers;
     }
 
 pub invariant_of-self-in-Err : goal.invariant_of-self-in-Err
 invariant_of-self-in-Err g c =
     let inv = c.self.invariant in
     let long = each_long g.S.IoSource c.self.inside.slots.items c.wait_for.new.slots.items c.wait_for.ensures.sources in
-    record { none = inv.none; enough = rw long inv.enough; fits = λ well. absurd (cc); named = λ told well. absurd (cc) }
+    record { none = inv.none; enough = rw long inv.enough; fits = λ well. absurd (cc); named = λ told well. absurd (cc); planned = λ told well. absurd (cc) }
 
 pub returns-in-Ok-clause-ok : goal.returns-in-Ok-clause-ok
 returns-in-Ok-clause-ok g c =
@@ -125,3 +133,33 @@ returns-in-Ok-clause-permitted g c =
     rw (← c.self.view_is) (λ planners morsels.
     wait_permits_less _ g.S.IoSource _ (work_orderly _ _ _ _ _ _ _ _ _ _ _ _ _ _ _ _ _ _ _ g.met.P.Planner.is_orderly g.met.P.Morsel.Morsel.is_orderly) _ (work_owes _ _ _ _ _ _ _ _ _ _ _ (g.met.P.Planner.owes planners) (g.met.P.Morsel.Morsel.owes morsels)) c.in-Some.root (live_with c.self.inside.items.items c.self.inside.slots.items c.self.inside.next_owner)
     (live_with c.wait_for.new.items.items c.wait_for.new.slots.items c.self.inside.next_owner) (c.self.invariant.fits well).live (c.self.invariant.named (planners, morsels) well) (c.in-Ok.ensures.ok c.self.inside.next_owner))
+
+pub returns-in-Ok-clause-seats : goal.returns-in-Ok-clause-seats
+returns-in-Ok-clause-seats g c =
+    let well = rw (← c.self.view_is) at c.requires.well in
+    rw (← c.self.view_is) (λ plans morsels.
+    keeps_seats g.S.IoSource _ _ _ _ _ _ (λ root told. wait_passed _ g.S.IoSource _ _ _ _ (work_plans _ _ _ _ _ _ _ _ _ _ _ _ _ (g.met.P.Planner.follows_plan plans) (g.met.P.Morsel.Morsel.follows_plan morsels)) (g.P.Planner.tells × g.P.Morsel.Morsel.tells) (λ t. publishes_by _ _ _ _ _ _ _ _ _ _ _ (g.met.P.Planner.owes t.0) (g.met.P.Morsel.Morsel.owes t.1)) root told c.in-Some.root (live_with c.self.inside.items.items c.self.inside.slots.items c.self.inside.next_owner) (live_with c.wait_for.new.items.items c.wait_for.new.slots.items c.self.inside.next_owner) ((c.self.invariant.fits well).live, (λ t. c.self.invariant.named t well), c.self.invariant.planned (plans, morsels) well) (c.in-Ok.ensures.ok c.self.inside.next_owner)))
+
+pub returns-in-Ok-clause-fetched : goal.returns-in-Ok-clause-fetched
+returns-in-Ok-clause-fetched g c =
+    let well = rw (← c.self.view_is) at c.requires.well in
+    rw (← c.self.view_is) (λ plans morsels.
+    spends_seats g.S.IoSource _ _ _ _ _ _ (λ root told. wait_passed _ g.S.IoSource _ _ _ _ (work_plans _ _ _ _ _ _ _ _ _ _ _ _ _ (g.met.P.Planner.follows_plan plans) (g.met.P.Morsel.Morsel.follows_plan morsels)) (g.P.Planner.tells × g.P.Morsel.Morsel.tells) (λ t. publishes_by _ _ _ _ _ _ _ _ _ _ _ (g.met.P.Planner.owes t.0) (g.met.P.Morsel.Morsel.owes t.1)) root told c.in-Some.root (live_with c.self.inside.items.items c.self.inside.slots.items c.self.inside.next_owner) (live_with c.wait_for.new.items.items c.wait_for.new.slots.items c.self.inside.next_owner) ((c.self.invariant.fits well).live, (λ t. c.self.invariant.named t well), c.self.invariant.planned (plans, morsels) well) (c.in-Ok.ensures.ok c.self.inside.next_owner)))
+
+pub returns-in-Ok-clause-fresh : goal.returns-in-Ok-clause-fresh
+returns-in-Ok-clause-fresh g c =
+    let well = rw (← c.self.view_is) at c.requires.well in
+    rw (← c.self.view_is) (λ plans morsels.
+    keeps_fresh g.S.IoSource _ _ _ _ _ _ (λ root told. wait_passed _ g.S.IoSource _ _ _ _ (work_plans _ _ _ _ _ _ _ _ _ _ _ _ _ (g.met.P.Planner.follows_plan plans) (g.met.P.Morsel.Morsel.follows_plan morsels)) (g.P.Planner.tells × g.P.Morsel.Morsel.tells) (λ t. publishes_by _ _ _ _ _ _ _ _ _ _ _ (g.met.P.Planner.owes t.0) (g.met.P.Morsel.Morsel.owes t.1)) root told c.in-Some.root (live_with c.self.inside.items.items c.self.inside.slots.items c.self.inside.next_owner) (live_with c.wait_for.new.items.items c.wait_for.new.slots.items c.self.inside.next_owner) ((c.self.invariant.fits well).live, (λ t. c.self.invariant.named t well), c.self.invariant.planned (plans, morsels) well) (c.in-Ok.ensures.ok c.self.inside.next_owner)))
+
+pub returns-in-Ok-clause-journals : goal.returns-in-Ok-clause-journals
+returns-in-Ok-clause-journals g c = rw (← c.self.view_is) ((wait_once _ g.S.IoSource _ c.in-Some.root (live_with c.self.inside.items.items c.self.inside.slots.items c.self.inside.next_owner) (live_with c.wait_for.new.items.items c.wait_for.new.slots.items c.self.inside.next_owner) (c.in-Ok.ensures.ok c.self.inside.next_owner)).0)
+
+pub returns-in-Err-clause-journals : goal.returns-in-Err-clause-journals
+returns-in-Err-clause-journals g c = rw (← c.self.view_is) ((wait_fails_once _ g.S.IoSource _ c.in-Some.root (live_with c.self.inside.items.items c.self.inside.slots.items c.self.inside.next_owner) (live_with c.wait_for.new.items.items c.wait_for.new.slots.items c.self.inside.next_owner) c.in-Err.error (c.in-Err.ensures.err c.self.inside.next_owner)).0)
+
+pub returns-in-Ok-clause-sure : goal.returns-in-Ok-clause-sure
+returns-in-Ok-clause-sure g c = rw (← c.self.view_is) ((wait_once _ g.S.IoSource _ c.in-Some.root (live_with c.self.inside.items.items c.self.inside.slots.items c.self.inside.next_owner) (live_with c.wait_for.new.items.items c.wait_for.new.slots.items c.self.inside.next_owner) (c.in-Ok.ensures.ok c.self.inside.next_owner)).1)
+
+pub returns-in-Err-clause-sure : goal.returns-in-Err-clause-sure
+returns-in-Err-clause-sure g c = rw (← c.self.view_is) ((wait_fails_once _ g.S.IoSource _ c.in-Some.root (live_with c.self.inside.items.items c.self.inside.slots.items c.self.inside.next_owner) (live_with c.wait_for.new.items.items c.wait_for.new.slots.items c.self.inside.next_owner) c.in-Err.error (c.in-Err.ensures.err c.self.inside.next_owner)).1)

@@ -205,8 +205,14 @@ fn are_listed(alloc: Global) -> Result<bool, Fail> {
     for (numbers, want) in [
         ([].as_slice(), ""),
         ([1, 3].as_slice(), ""),
-        ([1, 1].as_slice(), "item 1 is not above item 0"),
-        ([0, 3, 1].as_slice(), "item 2 is not above item 1"),
+        (
+            [1, 1].as_slice(),
+            "buffer values must be strictly increasing at positions 0 and 1",
+        ),
+        (
+            [0, 3, 1].as_slice(),
+            "buffer values must be strictly increasing at positions 1 and 2",
+        ),
     ] {
         if !is_listed(alloc, numbers, want)? {
             return Ok(false);

@@ -16,3 +16,8 @@ pub mod WidthIntervals
 pub mod WideNumbers
 pub mod TwoParts
 pub mod Answered
+pub mod ReadParts
+pub mod ReadTold
+pub mod Told
+pub mod KeptNumbers
+pub mod SerializedAgain

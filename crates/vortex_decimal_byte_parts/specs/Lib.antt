@@ -4,3 +4,4 @@ pub mod Checked
 pub mod Held
 pub mod Split
 pub mod Asked
+pub mod Serialized

@@ -51,3 +51,32 @@ pub enum PartsCastError {
     #[error("out of memory")]
     OutOfMemory,
 }
+
+/// Why metadata and children are not read as decimals in parts. The first that holds is answered.
+#[derive(Clone, Copy, Debug, PartialEq, Eq, Error)]
+pub enum SerdeError {
+    /// The id is none of the two.
+    #[error("the id is not known")]
+    UnknownId,
+    /// The metadata spells no message.
+    #[error("the metadata is malformed")]
+    BadMetadata,
+    /// The type is no decimal type.
+    #[error("the type is not that of decimals")]
+    NotDecimal,
+    /// The first message has a lower part, or the second more than one.
+    #[error("there are too many lower parts")]
+    LowerCount,
+    /// There is not one child for each part.
+    #[error("there is not one child for each part")]
+    ChildCount,
+    /// The number of part 0 is that of no width with sign, or that of part 1 of no width without.
+    #[error("the type of part {part} is no type of such a part")]
+    BadType { part: usize },
+    /// The child does not stand for its type, or has another length.
+    #[error("child {child} is not of its type and length")]
+    ChildMismatch { child: usize },
+    /// Want of memory.
+    #[error("out of memory")]
+    OutOfMemory,
+}

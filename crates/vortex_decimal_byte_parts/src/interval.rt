@@ -19,8 +19,9 @@ pub(crate) struct Interval {
 pub(crate) fn is_in(interval: Interval, number: i128) -> bool
     ensures { result ≡ lies_in interval number }
 {
-    let within = interval.least <= number && number <= interval.greatest;
-    if interval.outside { !within } else { within }
+    // No branch: which way a row goes is not foreseen.
+    let within = (interval.least <= number) & (number <= interval.greatest);
+    within != interval.outside
 }
 
 // The numbers of 128 bits of which an operator and a constant hold.

@@ -6,14 +6,18 @@ ghost use Rattle.vortex_array_kinds.specs.Kinds.{bool_column, decimal_column};
 ghost use Rattle.vortex_array_select.specs.Selected.{NamesRows};
 ghost use Rattle.vortex_array.specs.ColumnOf.{column_of};
 ghost use Rattle.vortex_decimal_byte_parts.specs.Columns.{parts_column};
+ghost use Rattle.vortex_decimal_byte_parts.specs.declared.errors.SerdeError.TheVariants.{OutOfMemory};
 
 use crate::assemble::{assemble_decimal, number_of};
+use crate::errors::SerdeError;
 use crate::parts::DecimalByteParts;
+use crate::plugin::DecimalBytePartsPlugin;
 use crate::split::{i128_to_parts, split_decimal};
 use std::alloc::{AllocError, Global};
 use std::ops::Range;
 use vortex_array::{Array, BoolArray, CompareOperator, DecimalArray};
 use vortex_buffer::Mask;
+use vortex_wire::{canonical_spells, one_message};
 
 /// The number of the parts of a number is that number.
 pub fn number_given_back(value: i128) -> i128
@@ -102,4 +106,43 @@ pub fn compared_as_decoded(
     let some = parts.compare(alloc, rhs, operator)?;
     let others = decoded.compare(alloc, rhs, operator)?;
     Ok((some, others))
+}
+
+/// Decimals in parts that are written, and read again as decimals of their type and length, are the same parts. Nothing but
+/// memory can be wanting.
+pub fn serialized_again(
+    alloc: Global,
+    parts: &DecimalByteParts,
+) -> Result<DecimalByteParts, AllocError>
+    ensures { IfOk result (λ p. p ≡ parts.now) }
+{
+    canonical_spells();
+    one_message();
+    let _lower = parts.lower_part();
+    let written = DecimalBytePartsPlugin.serialize(alloc, parts)?;
+    let (id, metadata, children) = written.into_parts();
+    match DecimalBytePartsPlugin.deserialize(
+        alloc,
+        id.as_str(),
+        &parts.dtype(),
+        parts.len(),
+        metadata.as_slice(),
+        children,
+    ) {
+        Ok(again) => {
+            let _again_lower = again.lower_part();
+            Ok(again)
+        }
+        Err(error) => Err(memory_of(error)),
+    }
+}
+
+// The want of memory that a refusal is.
+fn memory_of(error: SerdeError) -> AllocError
+    requires { error ≡ OutOfMemory }
+{
+    match error {
+        SerdeError::OutOfMemory => AllocError,
+        _ => unreachable!(),
+    }
 }

@@ -5,3 +5,12 @@ pub mod Refusals
 pub mod Repeats
 pub mod Held
 pub mod Short
+pub mod TruthsTaken
+pub mod CastColumns
+pub mod FilledColumns
+pub mod NamedExtremes
+pub mod Climbs
+pub mod Marks
+pub mod SameRows
+pub mod BuiltParts
+pub mod BuiltAgain

@@ -5,3 +5,8 @@ pub mod Refused
 pub mod Presence
 pub mod Answered
 pub mod OnlyTrue
+pub mod Casts
+pub mod Fills
+pub mod InOrder
+pub mod NamedValues
+pub mod Built

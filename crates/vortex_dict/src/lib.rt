@@ -3,21 +3,35 @@
 #![tactic(auto)]
 
 mod apply;
+mod build_error;
+mod building;
 mod canonical;
+mod cast;
 mod codes;
 mod compare;
+mod constant;
 mod dict;
 mod error;
+mod fill;
 mod laws;
+mod lookup;
+mod min_max;
+mod naming;
+mod orders;
 mod presence;
 mod repeated;
 mod row;
+mod rows;
 mod shortcuts;
 mod slices;
 mod truths;
 mod valid;
 
+pub use build_error::{BuildError, TooManyValues};
+pub use building::{build, built_again, dict_id};
 pub use dict::DictArray;
-pub use error::DictError;
+pub use error::{DictCastError, DictError};
+pub use fill::DictFilled;
 pub use laws::{compare_both, filter_both, slice_both, take_both};
 pub use slices::DictSlice;
+pub use vortex_wire::{BadMetadata, DictMetadata};

@@ -108,7 +108,7 @@ fn one_true(
 }
 
 // A number as a code, of the codes' width and this nullability, or none exactly where it is outside the width.
-fn code_scalar(codes: &Array, nullability: Nullability, number: u64) -> Option<Scalar>
+pub(crate) fn code_scalar(codes: &Array, nullability: Nullability, number: u64) -> Option<Scalar>
     requires { IsTrue (is_index_type (column_of codes.now).dtype) }
     ensures none { IfNone result (IsFalse (value_fits (column_of codes.now).dtype (values.Int (pos number)))) }
     ensures some { IfSome result (λ s. s ≡ record { dtype = with_nullability nullability (column_of codes.now).dtype; value = Some (values.Int (pos number)) }) }

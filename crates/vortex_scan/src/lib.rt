@@ -36,7 +36,8 @@ pub use planner::Planner;
 pub use run::Run;
 pub use state::{MorselOutput, Output, PlannerOutput, State};
 pub use vortex_scan_types::{
-    Batch, Names, NotIncreasing, Place, Projection, RootId, ScanRequest, Selection,
-    StrictSortedBuffer, WorkScope, selections_partition,
+    Batch, DataSource, DataSourceScan, Names, NotIncreasing, Partition, Place, Precision,
+    Projection, RootId, RowMask, ScanRequest, Selection, StrictSortedBuffer, WorkScope,
+    row_masks_complement, row_masks_count, row_masks_join, selections_partition,
 };
 pub use worker::{Work, Worker};

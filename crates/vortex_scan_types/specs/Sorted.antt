@@ -1,5 +1,6 @@
 -- Lists that increase strictly, and where a list stops to do so.
-use Rattle.std.specs.Prelude.{◌≡◌, ◌≢◌, ℕ, ◌+◌, ◌-◌, ◌<◌, List, length, slice_index_or}
+use Rattle.std.specs.Prelude.{◌≡◌, ◌≢◌, ℕ, ◌+◌, ◌-◌, ◌<◌, List, ◌++◌, length, slice_index_or, codes}
+use Rattle.std.specs.Fmt.{decimal}
 use Rattle.std.specs.declared.cmp.Ordering.{Ordering}
 use Rattle.std.specs.declared.cmp.Ordering.TheVariants.{Less}
 
@@ -21,3 +22,7 @@ pub record FirstDescent {X : Type 0} (cmp : X → X → Ordering) (xs : List X) 
   pub within : second < length xs
   pub before : IncreasesBelow cmp xs second
   pub here : DescendsAt cmp xs second
+
+-- what is said of two neighbours that do not increase strictly
+abbrev pub refusal_text : ℕ → ℕ → List ℕ
+refusal_text first second = codes "buffer values must be strictly increasing at positions " ++ (decimal first ++ (codes " and " ++ decimal second))

@@ -1,7 +1,8 @@
 // Requests.
-ghost use Rattle.std.specs.Prelude.{◌≡◌};
+ghost use Rattle.std.specs.Prelude.{◌≡◌, IfOk};
 
 use crate::selection::Selection;
+use std::alloc::{AllocError, Global};
 use std::marker::Model;
 use std::ops::Range;
 use vortex_array::{Filter, Name};
@@ -39,6 +40,17 @@ impl Names {
     {
         self.items.as_slice()
     }
+
+    /// A second list of the same names.
+    pub fn try_clone(&self, alloc: Global) -> Result<Names, AllocError>
+        ensures { IfOk result (λ n. n ≡ self.now) }
+    {
+        let mut names = Vec::new(alloc);
+        for name in self.as_slice() {
+            names.push(name.try_clone(alloc)?)?;
+        }
+        Ok(Names { items: names })
+    }
 }
 
 /// Which columns an answer has: all of them, or the named ones in their order, which may repeat.
@@ -54,6 +66,18 @@ impl Drop for Projection {
         match self {
             Projection::All => {}
             Projection::Columns(_part) => {}
+        }
+    }
+}
+
+impl Projection {
+    /// A second projection that is equal.
+    pub fn try_clone(&self, alloc: Global) -> Result<Projection, AllocError>
+        ensures { IfOk result (λ p. p ≡ self.now) }
+    {
+        match self {
+            Projection::All => Ok(Projection::All),
+            Projection::Columns(names) => Ok(Projection::Columns(names.try_clone(alloc)?)),
         }
     }
 }
@@ -90,5 +114,47 @@ impl Drop for ScanRequest {
             ordered: _ordered,
             limit: _limit,
         } = self;
+    }
+}
+
+// The filter again, where there is one.
+fn filter_copied(alloc: Global, filter: &Option<Filter>) -> Result<Option<Filter>, AllocError>
+    ensures { IfOk result (λ f. f ≡ filter.now) }
+{
+    match filter {
+        None => Ok(None),
+        Some(filter) => Ok(Some(filter.try_clone(alloc)?)),
+    }
+}
+
+// The range again, where there is one.
+fn range_copied(range: &Option<Range<u64>>) -> Option<Range<u64>>
+    ensures { result ≡ range.now }
+{
+    match range {
+        None => None,
+        Some(range) => Some(range.start..range.end),
+    }
+}
+
+impl ScanRequest {
+    /// A second request with equal fields.
+    pub fn try_clone(&self, alloc: Global) -> Result<ScanRequest, AllocError>
+        ensures { IfOk result (λ r. r ≡ self.now) }
+    {
+        let projection = self.projection.try_clone(alloc)?;
+        let selection = self.selection.try_clone(alloc)?;
+        let partition_selection = self.partition_selection.try_clone(alloc)?;
+        let filter = filter_copied(alloc, &self.filter)?;
+        Ok(ScanRequest {
+            projection,
+            filter,
+            row_range: range_copied(&self.row_range),
+            selection,
+            partition_selection,
+            partition_range: range_copied(&self.partition_range),
+            ordered: self.ordered,
+            limit: self.limit,
+        })
     }
 }

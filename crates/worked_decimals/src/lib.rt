@@ -12,4 +12,6 @@ mod rows;
 #[cfg(test)]
 mod samples;
 #[cfg(test)]
+mod serialized;
+#[cfg(test)]
 mod splitting;

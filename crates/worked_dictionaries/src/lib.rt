@@ -4,9 +4,15 @@
 #[cfg(test)]
 mod answering;
 #[cfg(test)]
+mod building;
+#[cfg(test)]
+mod changing;
+#[cfg(test)]
 mod decoding;
 #[cfg(test)]
 mod making;
+#[cfg(test)]
+mod ordering;
 #[cfg(test)]
 mod parts;
 #[cfg(test)]

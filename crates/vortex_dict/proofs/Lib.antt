@@ -14,3 +14,4 @@ pub mod Marks
 pub mod SameRows
 pub mod BuiltParts
 pub mod BuiltAgain
+pub mod Encodings

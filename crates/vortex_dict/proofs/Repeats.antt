@@ -1,4 +1,4 @@
--- Equal codes, and equal rows as plain arrays.
+-- Equal codes, and numbers that lie in each width.
 use Rattle.std.proofs.Common.{ℕ, ◌-◌, ◌<◌, ◌≤◌, ◌≡◌, List, length, get_or, replicate, refl, sym, ap, ◌∙◌, arith, Option, Some, None}
 use Rattle.std.specs.Prelude.{pos, IsTrue, IsFalse}
 use Rattle.std.proofs.lemmas.Bool.{true≢false, false≢true}
@@ -49,34 +49,6 @@ codes-sliced (Bools a) values i j equal order within = absurd (true≢false equa
 codes-sliced (Primitive a) values i j equal order within = absurd (true≢false equal)
 codes-sliced (Decimal a) values i j equal order within = absurd (true≢false equal)
 codes-sliced (VarBinView a) values i j equal order within = absurd (true≢false equal)
-
-row_itself : (x : Option Value) → filled_row x x ≡ x
-row_itself None = refl
-row_itself (Some v) = refl
-
--- equal rows filled with themselves
-pub self-filled : (k : ConstantParts) → filled k.scalar (constant_column k) ≡ constant_column k
-self-filled k = sym (equal-filled k.scalar k) ∙ ap (λ r. column_with k.scalar.dtype (replicate k.len r)) (row_itself k.scalar.value)
-
-nullable_itself : (t : DType) → IsTrue (is_nullable t) → nullable_form t ≡ t
-nullable_itself (dtype.Bool nulls.Nullable) h = refl
-nullable_itself (dtype.Bool nulls.NonNullable) h = absurd (false≢true h)
-nullable_itself (dtype.Primitive w nulls.Nullable) h = refl
-nullable_itself (dtype.Primitive w nulls.NonNullable) h = absurd (false≢true h)
-nullable_itself (dtype.Decimal d nulls.Nullable) h = refl
-nullable_itself (dtype.Decimal d nulls.NonNullable) h = absurd (false≢true h)
-nullable_itself (dtype.Utf8 nulls.Nullable) h = refl
-nullable_itself (dtype.Utf8 nulls.NonNullable) h = absurd (false≢true h)
-nullable_itself (dtype.Binary nulls.Nullable) h = refl
-nullable_itself (dtype.Binary nulls.NonNullable) h = absurd (false≢true h)
-
--- so many null indices
-abbrev pub null_indices : ℕ → Column
-null_indices n = constant_column (record { scalar = record { dtype = dtype.Primitive width.U64 nulls.Nullable; value = None }; len = n })
-
--- null indices take nulls, of a type that has them
-pub nulls-taken : (t : DType) (n : ℕ) (c : Column) → c.dtype ≡ t → IsTrue (is_nullable t) → taken (null_indices n) c ≡ constant_column (record { scalar = record { dtype = t; value = None }; len = n })
-nulls-taken t n c is nullable = same_column _ _ _ _ (ap nullable_form is ∙ nullable_itself t nullable) (map-replicate (row_at c.rows) n None)
 
 -- 0 lies in each width
 pub zero-fits : (w : PType) → IsTrue (in_width w (pos 0))

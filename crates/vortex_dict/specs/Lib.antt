@@ -10,3 +10,4 @@ pub mod Fills
 pub mod InOrder
 pub mod NamedValues
 pub mod Built
+pub mod Encoded

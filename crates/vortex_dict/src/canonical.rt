@@ -5,10 +5,10 @@ ghost use Rattle.vortex_array.specs.ColumnOf.{column_of, is_plain};
 ghost use Rattle.vortex_dict.specs.Decoded.{decoded, dict_column};
 
 use crate::dict::DictArray;
-use crate::repeated::plain_form;
 use crate::shortcuts::decoded_truths;
 use std::alloc::{AllocError, Global};
 use vortex_array::Array;
+use vortex_dict_builders::plain_form;
 
 impl DictArray {
     /// A plain array of the same type and rows.

@@ -11,6 +11,7 @@ mod codes;
 mod compare;
 mod constant;
 mod dict;
+mod encode;
 mod error;
 mod fill;
 mod laws;
@@ -19,7 +20,6 @@ mod min_max;
 mod naming;
 mod orders;
 mod presence;
-mod repeated;
 mod row;
 mod rows;
 mod shortcuts;
@@ -30,8 +30,14 @@ mod valid;
 pub use build_error::{BuildError, TooManyValues};
 pub use building::{build, built_again, dict_id};
 pub use dict::DictArray;
+pub use encode::{dict_encode, dict_encode_with_constraints, encode_both, require_all};
 pub use error::{DictCastError, DictError};
 pub use fill::DictFilled;
 pub use laws::{compare_both, filter_both, slice_both, take_both};
 pub use slices::DictSlice;
+pub use vortex_dict_builders::{
+    AnyDictEncoder, AnyWidth, BytesDictBuilder, DictBuilder, DictConstraints, DictEncodeError,
+    DictEncoder, EncodeError, PrimitiveDictBuilder, UNCONSTRAINED, bytes_dict_builder,
+    dict_encoder, primitive_dict_builder,
+};
 pub use vortex_wire::{BadMetadata, DictMetadata};

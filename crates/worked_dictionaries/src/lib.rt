@@ -10,6 +10,10 @@ mod changing;
 #[cfg(test)]
 mod decoding;
 #[cfg(test)]
+mod encoders;
+#[cfg(test)]
+mod encoding;
+#[cfg(test)]
 mod making;
 #[cfg(test)]
 mod ordering;

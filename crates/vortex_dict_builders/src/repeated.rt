@@ -10,8 +10,8 @@ ghost use Rattle.vortex_array.specs.ColumnOf.{column_of, is_plain as is_plain_ar
 use std::alloc::{AllocError, Global};
 use vortex_array::{Array, Bytes, ConstantArray, DType, Nullability, PType, Scalar, Text, Value};
 
-// A plain array of the same type and rows.
-pub(crate) fn plain_form(alloc: Global, array: Array) -> Result<Array, AllocError>
+/// A plain array of the same type and rows.
+pub fn plain_form(alloc: Global, array: Array) -> Result<Array, AllocError>
     ensures column { IfOk result (λ a. column_of a ≡ column_of array) }
     ensures plain { IfOk result (λ a. IsTrue (is_plain_array a)) }
 {
@@ -19,6 +19,16 @@ pub(crate) fn plain_form(alloc: Global, array: Array) -> Result<Array, AllocErro
         return Ok(array);
     }
     plain_rows(alloc, &array)
+}
+
+// A plain array of equal type and rows; the first stays.
+pub(crate) fn plain_copy(alloc: Global, array: &Array) -> Result<Array, AllocError>
+    ensures column { IfOk result (λ a. column_of a ≡ column_of array.now) }
+    ensures plain { IfOk result (λ a. IsTrue (is_plain_array a)) }
+{
+    let copy = array.try_clone(alloc)?;
+    let plain = plain_form(alloc, copy)?;
+    Ok(plain)
 }
 
 // Whether the array keeps each row by itself.

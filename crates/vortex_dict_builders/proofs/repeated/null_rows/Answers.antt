@@ -4,8 +4,8 @@ use Rattle.vortex_array_types.specs.declared.scalar.Value.{Value}
 use Rattle.vortex_array_kinds.specs.Kinds.{constant_column}
 use Rattle.vortex_array_select.specs.Selected.{taken}
 use Rattle.vortex_array.specs.ColumnOf.{column_of}
-use Rattle.vortex_dict.proofs.Repeats.{nulls-taken}
-use Rattle.vortex_dict.proofs.repeated.null_rows.Goals as goal
+use Rattle.vortex_dict_builders.proofs.Repeats.{nulls-taken}
+use Rattle.vortex_dict_builders.proofs.repeated.null_rows.Goals as goal
 
 pub returns-clause-column : goal.returns-clause-column
 returns-clause-column c =

@@ -1,0 +1,10 @@
+pub mod Repeats
+pub mod FirstsLemmas
+pub mod EncodingLemmas
+pub mod ValidityLemmas
+pub mod IndexLemmas
+pub mod ItemLemmas
+pub mod ChainLemmas
+pub mod EntryLemmas
+pub mod RowEntries
+pub mod Succeeds

@@ -27,6 +27,9 @@ extern "C" {
     fn bench_dictionary_filter(narrow: *const u8, narrow_len: usize, wide: *const u32, wide_len: usize, numbers: *const u64, numbers_len: usize, bytes: *const u8, bytes_len: usize, ends: *const usize, ends_len: usize, mask: *const u64, mask_len: usize, decoded: usize, times: usize) -> Told;
     fn bench_dictionary_take(narrow: *const u8, narrow_len: usize, wide: *const u32, wide_len: usize, numbers: *const u64, numbers_len: usize, bytes: *const u8, bytes_len: usize, ends: *const usize, ends_len: usize, places: *const u64, places_len: usize, decoded: usize, times: usize) -> Told;
     fn bench_dictionary_slice(narrow: *const u8, narrow_len: usize, wide: *const u32, wide_len: usize, numbers: *const u64, numbers_len: usize, bytes: *const u8, bytes_len: usize, ends: *const usize, ends_len: usize, start: usize, end: usize, decoded: usize, times: usize) -> Told;
+    fn bench_dictionary_cast(narrow: *const u8, narrow_len: usize, wide: *const u32, wide_len: usize, numbers: *const u64, numbers_len: usize, bytes: *const u8, bytes_len: usize, ends: *const usize, ends_len: usize, decoded: usize, times: usize) -> Told;
+    fn bench_dictionary_fill(narrow: *const u8, narrow_len: usize, wide: *const u32, wide_len: usize, numbers: *const u64, numbers_len: usize, bytes: *const u8, bytes_len: usize, ends: *const usize, ends_len: usize, valid: *const u64, valid_len: usize, number: u64, text: *const u8, text_len: usize, decoded: usize, times: usize) -> Told;
+    fn bench_dictionary_extremes(narrow: *const u8, narrow_len: usize, wide: *const u32, wide_len: usize, numbers: *const u64, numbers_len: usize, bytes: *const u8, bytes_len: usize, ends: *const usize, ends_len: usize, decoded: usize, times: usize) -> Told;
 }
 
 const ROWS: usize = 10_000_000;
@@ -36,6 +39,7 @@ const MORE: usize = 6;
 // Codes, as the stock side reads them.
 trait Code: Copy {
     fn place(self) -> usize;
+    fn of(place: usize) -> Self;
     // The codes as those of 8 bits, and as those of 32.
     fn lent(codes: &[Self]) -> (&[u8], &[u32])
     where
@@ -48,6 +52,10 @@ impl Code for u8 {
         self as usize
     }
 
+    fn of(place: usize) -> u8 {
+        place as u8
+    }
+
     fn lent(codes: &[u8]) -> (&[u8], &[u32]) {
         (codes, &[])
     }
@@ -57,6 +65,10 @@ impl Code for u32 {
     #[inline(always)]
     fn place(self) -> usize {
         self as usize
+    }
+
+    fn of(place: usize) -> u32 {
+        place as u32
     }
 
     fn lent(codes: &[u32]) -> (&[u8], &[u32]) {
@@ -97,6 +109,14 @@ trait Values: Clone {
     fn told(&self, i: usize) -> u64;
     fn decoded<C: Code>(&self, codes: &[C]) -> Self;
     fn truths(&self, bound: u64, text: &str) -> Vec<bool>;
+    // How many values are cast: numbers to `i64`, texts to a type with nulls.
+    fn cast(&self) -> usize;
+    // The first place of the value at a place.
+    fn place_of(&self, i: usize) -> usize;
+    // The places of the least and of the greatest of the values that are marked.
+    fn extremes(&self, marks: &[bool]) -> (usize, usize);
+    // The number or the text at a place.
+    fn value(&self, i: usize) -> (u64, &str);
     // The numbers, the bytes, and where each text ends.
     fn lent(&self) -> (&[u64], &[u8], &[usize]);
 }
@@ -118,6 +138,25 @@ impl Values for Vec<u64> {
     #[inline(never)]
     fn truths(&self, bound: u64, _text: &str) -> Vec<bool> {
         self.iter().map(|value| *value < bound).collect()
+    }
+
+    #[inline(never)]
+    fn cast(&self) -> usize {
+        let numbers: Vec<i64> = self.iter().map_while(|value| i64::try_from(*value).ok()).collect();
+        black_box(numbers).len()
+    }
+
+    fn place_of(&self, i: usize) -> usize {
+        self.iter().position(|value| *value == self[i]).unwrap()
+    }
+
+    fn extremes(&self, marks: &[bool]) -> (usize, usize) {
+        let named = || (0..marks.len()).filter(|i| marks[*i]);
+        (named().min_by_key(|i| self[*i]).unwrap(), named().max_by_key(|i| self[*i]).unwrap())
+    }
+
+    fn value(&self, i: usize) -> (u64, &str) {
+        (self[i], "")
     }
 
     fn lent(&self) -> (&[u64], &[u8], &[usize]) {
@@ -147,6 +186,24 @@ impl Values for Texts {
     #[inline(never)]
     fn truths(&self, _bound: u64, text: &str) -> Vec<bool> {
         (0..self.len()).map(|i| self.get(i) < text).collect()
+    }
+
+    #[inline(never)]
+    fn cast(&self) -> usize {
+        black_box(self.clone()).len()
+    }
+
+    fn place_of(&self, i: usize) -> usize {
+        (0..self.len()).position(|place| self.get(place) == self.get(i)).unwrap()
+    }
+
+    fn extremes(&self, marks: &[bool]) -> (usize, usize) {
+        let named = || (0..marks.len()).filter(|i| marks[*i]);
+        (named().min_by_key(|i| self.get(*i)).unwrap(), named().max_by_key(|i| self.get(*i)).unwrap())
+    }
+
+    fn value(&self, i: usize) -> (u64, &str) {
+        (0, self.get(i))
     }
 
     fn lent(&self) -> (&[u64], &[u8], &[usize]) {
@@ -190,6 +247,26 @@ fn stock_take<C: Code>(codes: &[C], places: &[u64]) -> Vec<C> {
 #[inline(never)]
 fn stock_slice<C: Code>(codes: &[C], start: usize, end: usize) -> Vec<C> {
     codes[start..end].to_vec()
+}
+
+// The codes, and one in the place of those whose bit is not set.
+#[inline(never)]
+fn stock_fill<C: Code>(codes: &[C], valid: &[u64], fill: C) -> Vec<C> {
+    let mut full = Vec::with_capacity(codes.len());
+    for (group, word) in codes.chunks(64).zip(valid) {
+        full.extend(group.iter().enumerate().map(|(i, code)| if word >> i & 1 == 1 { *code } else { fill }));
+    }
+    full
+}
+
+// Which of so many values a code names.
+#[inline(never)]
+fn stock_marks<C: Code>(codes: &[C], values: usize) -> Vec<bool> {
+    let mut marks = vec![false; values];
+    for code in codes {
+        marks[code.place()] = true;
+    }
+    marks
 }
 
 fn count(words: &[u64]) -> usize {
@@ -266,6 +343,8 @@ impl Random {
 // What all calls are asked with.
 struct Asked {
     mask: Vec<u64>,
+    // Of ten rows nine are set.
+    valid: Vec<u64>,
     places: Vec<u64>,
     bound: u64,
     text: &'static str,
@@ -318,6 +397,38 @@ fn raced<C: Code, V: Values>(codes: &[C], values: &V, asked: &Asked, kind: &str)
     }, Some(&|times| slice(times, 1)));
 }
 
+// Dictionaries cast, filled, and asked for their extremes.
+fn changed<C: Code, V: Values>(codes: &[C], values: &V, asked: &Asked, kind: &str) {
+    let (narrow, wide) = C::lent(codes);
+    let (numbers, bytes, ends) = values.lent();
+    let runs = asked.runs;
+    let cast = |times, decoded| unsafe { bench_dictionary_cast(narrow.as_ptr(), narrow.len(), wide.as_ptr(), wide.len(), numbers.as_ptr(), numbers.len(), bytes.as_ptr(), bytes.len(), ends.as_ptr(), ends.len(), decoded, times) };
+    let same = told_codes(codes, values);
+    assert_eq!((cast(1, 0), cast(1, 1)), (same, same), "cast, {kind}");
+    race(&format!("cast, {kind}"), runs, &|times| cast(times, 0), &|| {
+        black_box(black_box(values).cast());
+        black_box(black_box(codes).to_vec()).len()
+    }, Some(&|times| cast(times, 1)));
+
+    let valid = &asked.valid;
+    let (number, text) = values.value(7);
+    let fill = |times, decoded| unsafe { bench_dictionary_fill(narrow.as_ptr(), narrow.len(), wide.as_ptr(), wide.len(), numbers.as_ptr(), numbers.len(), bytes.as_ptr(), bytes.len(), ends.as_ptr(), ends.len(), valid.as_ptr(), valid.len(), number, text.as_ptr(), text.len(), decoded, times) };
+    let full = told_codes(&stock_fill(codes, valid, C::of(7)), values);
+    assert_eq!((fill(1, 0), fill(1, 1)), (full, full), "fill_null, {kind}");
+    race(&format!("fill_null, a tenth null, {kind}"), runs, &|times| fill(times, 0), &|| {
+        let code = C::of(black_box(values).place_of(7));
+        black_box(black_box(values).clone());
+        black_box(stock_fill(black_box(codes), black_box(valid), code)).len()
+    }, Some(&|times| fill(times, 1)));
+
+    let extremes = |times, decoded| unsafe { bench_dictionary_extremes(narrow.as_ptr(), narrow.len(), wide.as_ptr(), wide.len(), numbers.as_ptr(), numbers.len(), bytes.as_ptr(), bytes.len(), ends.as_ptr(), ends.len(), decoded, times) };
+    let stock = || values.extremes(&stock_marks(black_box(codes), Values::len(black_box(values))));
+    let (least, greatest) = stock();
+    let both = Told { rows: ROWS, value: values.told(least).wrapping_add(values.told(greatest)) };
+    assert_eq!((extremes(1, 0), extremes(1, 1)), (both, both), "min_max, {kind}");
+    race(&format!("min_max, {kind}"), runs, &|times| extremes(times, 0), &|| black_box(stock()).0, Some(&|times| extremes(times, 1)));
+}
+
 // Texts matched with a pattern: a dictionary of truths, and on the decoded column a column of answers.
 fn matched<C: Code>(codes: &[C], texts: &Texts, runs: usize, kind: &str) {
     let (narrow, wide) = C::lent(codes);
@@ -347,8 +458,10 @@ fn short_texts(random: &mut Random, many: usize) -> Texts {
 fn of_codes<C: Code>(random: &mut Random, codes: &[C], many: usize, asked: &Asked, width: &str) {
     let numbers: Vec<u64> = (0..many).map(|_| random.next() >> 1).collect();
     raced(codes, &numbers, asked, &format!("{width} of u64"));
+    changed(codes, &numbers, asked, &format!("{width} of u64"));
     let texts = short_texts(random, many);
     raced(codes, &texts, asked, &format!("{width} of texts"));
+    changed(codes, &texts, asked, &format!("{width} of texts"));
     matched(codes, &texts, asked.runs, &format!("{width} of texts"));
 }
 
@@ -357,7 +470,8 @@ fn main() {
     let mut random = Random(0x9e3779b97f4a7c15);
     let mask = random.bits(50);
     let places = (0..ROWS as u64).map(|i| (i + random.next() % 100).min(ROWS as u64 - 1)).collect();
-    let asked = Asked { mask, places, bound: u64::MAX / 4, text: "northw", runs };
+    let valid = random.bits(90);
+    let asked = Asked { mask, valid, places, bound: u64::MAX / 4, text: "northw", runs };
     println!("{:<44} {:>9} {:>9} {:>6} {:>9}", "job", "ours", "stock", "ratio", "decoded");
     let narrow: Vec<u8> = (0..ROWS).map(|_| (random.next() % 200) as u8).collect();
     of_codes(&mut random, &narrow, 200, &asked, "u8");

@@ -41,9 +41,9 @@ impl Lent<'_> {
     }
 }
 
-// A column of numbers without null.
-fn column_of(numbers: PrimitiveBuffer) -> Result<Array, AllocError> {
-    match PrimitiveArray::try_new(numbers, Validity::NonNullable) {
+// A column of numbers.
+fn column_of(numbers: PrimitiveBuffer, validity: Validity) -> Result<Array, AllocError> {
+    match PrimitiveArray::try_new(numbers, validity) {
         Ok(array) => Ok(Array::Primitive(array)),
         Err(_) => Err(AllocError),
     }
@@ -52,21 +52,21 @@ fn column_of(numbers: PrimitiveBuffer) -> Result<Array, AllocError> {
 /// A column of `u64`.
 pub fn column_of_u64(alloc: Global, values: &[u64]) -> Result<Array, AllocError> {
     match Buffer::from_slice(alloc, values) {
-        Ok(numbers) => column_of(PrimitiveBuffer::U64(numbers)),
+        Ok(numbers) => column_of(PrimitiveBuffer::U64(numbers), Validity::NonNullable),
         Err(e) => Err(e),
     }
 }
 
 // The codes.
-fn codes_of(alloc: Global, lent: Lent<'_>) -> Result<Array, AllocError> {
+fn codes_of(alloc: Global, lent: Lent<'_>, validity: Validity) -> Result<Array, AllocError> {
     if lent.narrow.is_empty() {
         match Buffer::from_slice(alloc, lent.wide) {
-            Ok(numbers) => column_of(PrimitiveBuffer::U32(numbers)),
+            Ok(numbers) => column_of(PrimitiveBuffer::U32(numbers), validity),
             Err(e) => Err(e),
         }
     } else {
         match Buffer::from_slice(alloc, lent.narrow) {
-            Ok(numbers) => column_of(PrimitiveBuffer::U8(numbers)),
+            Ok(numbers) => column_of(PrimitiveBuffer::U8(numbers), validity),
             Err(e) => Err(e),
         }
     }
@@ -108,7 +108,28 @@ fn push_texts(
 
 /// The dictionary. A code without a value is told as want of memory.
 pub fn dictionary(alloc: Global, lent: Lent<'_>) -> Result<DictArray, AllocError> {
-    match codes_of(alloc, lent) {
+    dictionary_under(alloc, lent, Validity::NonNullable)
+}
+
+/// The dictionary, where the codes are null whose bit is not set.
+pub fn dictionary_with_nulls(
+    alloc: Global,
+    lent: Lent<'_>,
+    valid: &[u64],
+) -> Result<DictArray, AllocError> {
+    match bits_of_words(alloc, valid, lent.rows()) {
+        Ok(bits) => dictionary_under(alloc, lent, Validity::Bits(bits)),
+        Err(e) => Err(e),
+    }
+}
+
+// The dictionary of codes under a validity.
+fn dictionary_under(
+    alloc: Global,
+    lent: Lent<'_>,
+    validity: Validity,
+) -> Result<DictArray, AllocError> {
+    match codes_of(alloc, lent, validity) {
         Ok(codes) => with_codes(alloc, lent, codes),
         Err(e) => Err(e),
     }
@@ -123,14 +144,21 @@ fn with_codes(alloc: Global, lent: Lent<'_>, codes: Array) -> Result<DictArray, 
     }
 }
 
-/// The mask of words, as many bits as codes.
-pub fn mask_of_words(alloc: Global, words: &[u64], len: usize) -> Result<Mask, AllocError>
-    ensures { IfOk result (λ mask. length (mask_bits mask) ≡ len) }
+// So many bits of words.
+fn bits_of_words(alloc: Global, words: &[u64], len: usize) -> Result<BitBuffer, AllocError>
+    ensures { IfOk result (λ bits. length bits ≡ len) }
 {
     if words.len() < len.div_ceil(64) {
         return Err(AllocError);
     }
-    let bits = BitBuffer::from_words(Buffer::from_slice(alloc, words)?, len);
+    Ok(BitBuffer::from_words(Buffer::from_slice(alloc, words)?, len))
+}
+
+/// The mask of words, as many bits as codes.
+pub fn mask_of_words(alloc: Global, words: &[u64], len: usize) -> Result<Mask, AllocError>
+    ensures { IfOk result (λ mask. length (mask_bits mask) ≡ len) }
+{
+    let bits = bits_of_words(alloc, words, len)?;
     Ok(Mask::from_buffer(bits))
 }
 
@@ -165,6 +193,15 @@ pub fn text_scalar(alloc: Global, bytes: &[u8]) -> Result<Scalar, AllocError> {
             scalar_of(DType::Utf8(Nullability::NonNullable), value)
         }
         Err(_) => Err(AllocError),
+    }
+}
+
+/// The type that a dictionary is cast to: texts with nulls where it has texts, else `i64`.
+pub fn other_type(lent: Lent<'_>) -> DType {
+    if lent.has_texts() {
+        DType::Utf8(Nullability::Nullable)
+    } else {
+        DType::Primitive(PType::I64, Nullability::NonNullable)
     }
 }
 

@@ -5,6 +5,7 @@
 
 mod answers;
 mod building;
+mod changes;
 mod once;
 mod parts;
 mod plain;

@@ -1,5 +1,5 @@
 // Each call on a dictionary once. A function here owns one answer, tells of it and drops it.
-ghost use Rattle.std.specs.Prelude.{◌≡◌, ◌≤◌, IsTrue, length};
+ghost use Rattle.std.specs.Prelude.{◌≡◌, ◌≤◌, IsTrue, is_some, length};
 ghost use Rattle.vortex_buffer.specs.Mask.{mask_bits};
 ghost use Rattle.vortex_array.specs.ColumnOf.{column_of};
 ghost use Rattle.vortex_array_kinds.specs.StringValues.{is_text_type};
@@ -7,9 +7,11 @@ ghost use Rattle.vortex_array_select.specs.Selected.{NamesRows};
 ghost use Rattle.vortex_array_types.specs.Typed.{same_apart_from_nullability};
 ghost use Rattle.vortex_dict.specs.Decoded.{dict_column};
 
-use crate::telling::{Told, told_answers, told_dictionary, told_of, told_slice};
+use crate::telling::{
+    Told, told_answers, told_dictionary, told_extremes, told_filled, told_of, told_slice,
+};
 use std::alloc::{AllocError, Global};
-use vortex_array::{Array, CompareOperator, CompareTo};
+use vortex_array::{Array, CompareOperator, CompareTo, DType, Scalar};
 use vortex_buffer::Mask;
 use vortex_dict::DictArray;
 
@@ -90,6 +92,33 @@ pub fn slice_once(
 {
     match dict.slice(alloc, start..end) {
         Ok(part) => Ok(told_slice(&part)),
+        Err(e) => Err(e),
+    }
+}
+
+/// The rows, of a type. A refusal is told as want of memory.
+pub fn cast_once(alloc: Global, dict: &DictArray, dtype: &DType) -> Result<Told, AllocError> {
+    match dict.cast(alloc, dtype) {
+        Ok(rows) => Ok(told_dictionary(&rows)),
+        Err(_) => Err(AllocError),
+    }
+}
+
+/// The rows, and the fill in the place of nulls.
+pub fn fill_once(alloc: Global, dict: &DictArray, fill: &Scalar) -> Result<Told, AllocError>
+    requires value { IsTrue (is_some fill.now.value) }
+    requires same_type { IsTrue (same_apart_from_nullability (dict_column dict.now).dtype fill.now.dtype) }
+{
+    match dict.fill_null(alloc, fill) {
+        Ok(rows) => Ok(told_filled(&rows)),
+        Err(e) => Err(e),
+    }
+}
+
+/// The least and the greatest row.
+pub fn extremes_once(alloc: Global, dict: &DictArray) -> Result<Told, AllocError> {
+    match dict.min_max(alloc) {
+        Ok(found) => Ok(told_extremes(dict.len(), &found)),
         Err(e) => Err(e),
     }
 }

@@ -1,5 +1,5 @@
 // The same calls on a decoded column, once and so many times.
-ghost use Rattle.std.specs.Prelude.{◌≡◌, ◌≤◌, IsTrue, length};
+ghost use Rattle.std.specs.Prelude.{◌≡◌, ◌≤◌, IsTrue, is_some, length};
 ghost use Rattle.vortex_buffer.specs.Mask.{mask_bits};
 ghost use Rattle.vortex_array.specs.ColumnOf.{column_of};
 ghost use Rattle.vortex_array_kinds.specs.StringValues.{is_text_type};
@@ -7,9 +7,9 @@ ghost use Rattle.vortex_array_select.specs.Selected.{NamesRows};
 ghost use Rattle.vortex_array_types.specs.Typed.{same_apart_from_nullability};
 
 use crate::repeating::is_text;
-use crate::telling::{Told, told_answers, told_of};
+use crate::telling::{Told, told_answers, told_extremes, told_of};
 use std::alloc::{AllocError, Global};
-use vortex_array::{Array, CompareOperator};
+use vortex_array::{Array, CompareOperator, DType, Scalar};
 use vortex_buffer::Mask;
 
 // Row by row whether the column is below a constant.
@@ -154,6 +154,76 @@ pub fn slice_in_column(
     let mut told = slice_once(alloc, rows, start, end)?;
     for _ in 1..times {
         told = slice_once(alloc, rows, start, end)?;
+    }
+    Ok(told)
+}
+
+// The rows, of a type. A refusal is told as want of memory.
+fn cast_once(alloc: Global, rows: &Array, dtype: &DType) -> Result<Told, AllocError> {
+    match rows.cast(alloc, dtype) {
+        Ok(rows) => Ok(told_of(&rows)),
+        Err(_) => Err(AllocError),
+    }
+}
+
+/// The rows, of a type.
+pub fn cast_in_column(
+    alloc: Global,
+    rows: &Array,
+    dtype: &DType,
+    times: usize,
+) -> Result<Told, AllocError> {
+    let mut told = cast_once(alloc, rows, dtype)?;
+    for _ in 1..times {
+        told = cast_once(alloc, rows, dtype)?;
+    }
+    Ok(told)
+}
+
+// The rows, and the fill in the place of nulls.
+fn fill_once(alloc: Global, rows: &Array, fill: &Scalar) -> Result<Told, AllocError>
+    requires value { IsTrue (is_some fill.now.value) }
+    requires same_type { IsTrue (same_apart_from_nullability (column_of rows.now).dtype fill.now.dtype) }
+{
+    match rows.fill_null(alloc, fill) {
+        Ok(rows) => Ok(told_of(&rows)),
+        Err(e) => Err(e),
+    }
+}
+
+/// The rows, and the fill in the place of nulls.
+pub fn fill_in_column(
+    alloc: Global,
+    rows: &Array,
+    fill: &Scalar,
+    times: usize,
+) -> Result<Told, AllocError> {
+    if fill.is_null() {
+        return Err(AllocError);
+    }
+    if !rows.dtype().same_apart_from_nullability(&fill.dtype()) {
+        return Err(AllocError);
+    }
+    let mut told = fill_once(alloc, rows, fill)?;
+    for _ in 1..times {
+        told = fill_once(alloc, rows, fill)?;
+    }
+    Ok(told)
+}
+
+// The least and the greatest row.
+fn extremes_once(alloc: Global, rows: &Array) -> Result<Told, AllocError> {
+    match rows.min_max(alloc) {
+        Ok(found) => Ok(told_extremes(rows.len(), &found)),
+        Err(e) => Err(e),
+    }
+}
+
+/// The least and the greatest row.
+pub fn extremes_in_column(alloc: Global, rows: &Array, times: usize) -> Result<Told, AllocError> {
+    let mut told = extremes_once(alloc, rows)?;
+    for _ in 1..times {
+        told = extremes_once(alloc, rows)?;
     }
     Ok(told)
 }

@@ -4,11 +4,12 @@ ghost use Rattle.vortex_array.specs.ColumnOf.{column_of};
 ghost use Rattle.vortex_array_kinds.specs.StringValues.{is_text_type};
 
 use crate::once::{
-    apply_once, below_once, decode_once, filter_once, like_once, slice_once, take_once,
+    apply_once, below_once, cast_once, decode_once, extremes_once, fill_once, filter_once,
+    like_once, slice_once, take_once,
 };
 use crate::telling::Told;
 use std::alloc::{AllocError, Global};
-use vortex_array::{Array, CompareTo, DType};
+use vortex_array::{Array, CompareTo, DType, Scalar};
 use vortex_buffer::Mask;
 use vortex_dict::DictArray;
 
@@ -130,6 +131,49 @@ pub fn slice_times(
     let mut told = slice_once(alloc, dict, start, end)?;
     for _ in 1..times {
         told = slice_once(alloc, dict, start, end)?;
+    }
+    Ok(told)
+}
+
+/// The rows, of a type.
+pub fn cast_times(
+    alloc: Global,
+    dict: &DictArray,
+    dtype: &DType,
+    times: usize,
+) -> Result<Told, AllocError> {
+    let mut told = cast_once(alloc, dict, dtype)?;
+    for _ in 1..times {
+        told = cast_once(alloc, dict, dtype)?;
+    }
+    Ok(told)
+}
+
+/// The rows, and the fill in the place of nulls.
+pub fn fill_times(
+    alloc: Global,
+    dict: &DictArray,
+    fill: &Scalar,
+    times: usize,
+) -> Result<Told, AllocError> {
+    if fill.is_null() {
+        return Err(AllocError);
+    }
+    if !dict.dtype().same_apart_from_nullability(&fill.dtype()) {
+        return Err(AllocError);
+    }
+    let mut told = fill_once(alloc, dict, fill)?;
+    for _ in 1..times {
+        told = fill_once(alloc, dict, fill)?;
+    }
+    Ok(told)
+}
+
+/// The least and the greatest row.
+pub fn extremes_times(alloc: Global, dict: &DictArray, times: usize) -> Result<Told, AllocError> {
+    let mut told = extremes_once(alloc, dict)?;
+    for _ in 1..times {
+        told = extremes_once(alloc, dict)?;
     }
     Ok(told)
 }

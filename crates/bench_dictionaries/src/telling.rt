@@ -1,7 +1,7 @@
 // What a call gave, as its caller checks it. Telling it costs next to nothing beside the call.
 use std::alloc::{AllocError, Global};
-use vortex_array::{Array, BoolArray, Validity, ValueRef};
-use vortex_dict::{DictArray, DictSlice};
+use vortex_array::{Array, BoolArray, MinMax, Validity, ValueRef};
+use vortex_dict::{DictArray, DictFilled, DictSlice};
 
 /// What a call gave. Both parts are 0 where memory was wanting.
 #[repr(C)]
@@ -74,6 +74,26 @@ pub fn told_slice(part: &DictSlice) -> Told {
             value: 0,
         },
     }
+}
+
+/// What is told of a dictionary that was filled.
+pub fn told_filled(rows: &DictFilled) -> Told {
+    match rows {
+        DictFilled::Dict(dict) => told_dictionary(dict),
+        DictFilled::Plain(rows) => told_of(rows),
+    }
+}
+
+/// What is told of so many rows by the least and the greatest of them: both as one number.
+pub fn told_extremes(rows: usize, found: &Option<MinMax>) -> Told {
+    let value = match found {
+        Some(extremes) => {
+            let least = number_in(extremes.min.value_ref());
+            least.wrapping_add(number_in(extremes.max.value_ref()))
+        }
+        None => 0,
+    };
+    Told { rows, value }
 }
 
 /// What is told of answers.

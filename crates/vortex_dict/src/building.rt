@@ -48,20 +48,20 @@ impl DictArray {
 /// `ChildMismatch` where the codes, and then the values, do not stand for their type or have another length, or where the codes have
 /// nulls and the type has none; `NotUnsigned`; `CodeOutOfRange` with the first such code.
 pub fn build(
-    dtype: DType,
+    dtype: &DType,
     len: usize,
     metadata: &DictMetadata,
     children: Vec<Array>,
 ) -> Result<DictArray, BuildError>
-    ensures ok { IfOk result (IsBuilt dtype len metadata.now children.items) }
-    ensures err { IfErr result (RefusesBuild dtype len metadata.now children.items) }
+    ensures ok { IfOk result (IsBuilt dtype.now len metadata.now children.items) }
+    ensures err { IfErr result (RefusesBuild dtype.now len metadata.now children.items) }
 {
     let found = children.len();
     let Some((codes, values)) = two_children(children) else {
         return Err(BuildError::ChildCount { found });
     };
-    match type_of_codes(&dtype, metadata) {
-        Some(codes_dtype) => build_of(&dtype, &codes_dtype, len, metadata, codes, values),
+    match type_of_codes(dtype, metadata) {
+        Some(codes_dtype) => build_of(dtype, &codes_dtype, len, metadata, codes, values),
         None => Err(BuildError::BadMetadata),
     }
 }
@@ -136,7 +136,7 @@ pub fn built_again(alloc: Global, dict: &DictArray) -> Result<Option<DictArray>,
         return Ok(None);
     };
     let children = copies_of(alloc, dict)?;
-    match build(dict.dtype(), dict.len(), &metadata, children) {
+    match build(&dict.dtype(), dict.len(), &metadata, children) {
         Ok(again) => Ok(Some(again)),
         Err(_) => unreachable!(),
     }

@@ -144,7 +144,7 @@ fn refused(
         codes_ptype: told.1,
         is_nullable_codes: told.2,
     };
-    match build(dtype, 2, &metadata, children(alloc, given)?) {
+    match build(&dtype, 2, &metadata, children(alloc, given)?) {
         Ok(dict) => {
             let is_right = dict.dtype() == dtype && is_decoded(alloc, &dict, &[Some(5), Some(5)])?;
             if is_right {
@@ -179,7 +179,7 @@ fn signed(alloc: Global, count: usize) -> Result<Option<BuildError>, Fail> {
         codes_ptype: 6,
         is_nullable_codes: None,
     };
-    match build(NUMBER, 2, &metadata, children) {
+    match build(&NUMBER, 2, &metadata, children) {
         Ok(_) => Ok(None),
         Err(error) => Ok(Some(error)),
     }

@@ -5,11 +5,11 @@ use Rattle.std.specs.List.{AllZip}
 use Rattle.std.proofs.lemmas.List.Elements.{All-cons, All-head, All-nil, All-tail}
 use Rattle.vortex_io.specs.Memory.{MemoryState}
 use Rattle.vortex_table.specs.declared.chunk.Chunk.{Chunk}
-use Rattle.vortex_table.specs.declared.describe.PartitionDesc.{PartitionDesc}
+use Rattle.vortex_table_types.specs.declared.describe.PartitionDesc.{PartitionDesc}
 use Rattle.vortex_table.specs.ChunkOf.{content_of}
 use Rattle.vortex_table.specs.Given.{contents_of}
 use Rattle.vortex_table.specs.State.{ArrivesInOrder, IsCleared, Stands, TableState}
-use Rattle.vortex_table.specs.Table.{Content, FitsPartition}
+use Rattle.vortex_table_types.specs.Table.{Content, FitsPartition}
 use Rattle.judged_scans.specs.Ready.{IsReady}
 
 abbrev Cleared : MemoryState Chunk → MemoryState Chunk → Type 0

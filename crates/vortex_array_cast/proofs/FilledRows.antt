@@ -1,6 +1,6 @@
 -- Rows whose nulls are filled.
-use Rattle.std.proofs.Common.{ℕ, zero, suc, ◌<◌, ◌≡◌, ◌+◌, Bool, true, false, cond, List, [], ◌∷◌, ◌++◌, length, get_or, map, take, refl, sym, ap, ◌∙◌, arith, Some}
-use Rattle.std.specs.Prelude.{◌&&◌, ◌||◌, IsTrue, All, not, replicate}
+use Rattle.std.proofs.Common.{ℕ, inl, inr, zero, suc, ◌<◌, ◌≡◌, ◌+◌, Bool, true, false, cond, List, [], ◌∷◌, ◌++◌, length, get_or, map, take, refl, sym, ap, ◌∙◌, arith, Some}
+use Rattle.std.specs.Prelude.{◌⊎◌, ◌&&◌, ◌||◌, IsTrue, All, not, replicate}
 use Rattle.std.specs.Simd.Lanes.{zip2}
 use Rattle.std.proofs.lemmas.List.{get_or-replicate, map-id, take_all, take_more}
 use Rattle.std.proofs.lemmas.Simd.{length-zip2, get_or-zip2}
@@ -122,3 +122,12 @@ filled-set (false ∷ bits) (false ∷ present) = ap (λ bs. true ∷ bs) (fille
 filled-set (false ∷ bits) (true ∷ present) = ap (λ bs. false ∷ bs) (filled-set bits present)
 filled-set (true ∷ bits) (false ∷ present) = ap (λ bs. true ∷ bs) (filled-set bits present)
 filled-set (true ∷ bits) (true ∷ present) = ap (λ bs. true ∷ bs) (filled-set bits present)
+
+-- where each row is null, each item is the fill
+pub filled-by-none : {X : Type 0} (fill : X) (xs : List X) → filled_items fill xs (replicate (length xs) false) ≡ replicate (length xs) fill
+filled-by-none fill [] = refl
+filled-by-none fill (x ∷ xs) = ap (λ ys. fill ∷ ys) (filled-by-none fill xs)
+
+pub has-none : (v : Validity) → (v ≡ NonNullable) ⊎ (v ≡ AllValid) → has_none v ≡ true
+has-none v (inl e) = ap has_none e
+has-none v (inr e) = ap has_none e

@@ -1,17 +1,17 @@
 // Columns whose null rows get a value, whatever their kind.
-ghost use Rattle.std.specs.Prelude.{◌≡◌, IsTrue, IfOk, Some, cond, length};
+ghost use Rattle.std.specs.Prelude.{◌≡◌, ◌≤◌, ◌+◌, ◌++◌, IsTrue, IfOk, OnOk, Some, cond, length, replicate, take};
 ghost use Rattle.vortex_array_types.specs.Row.{value_fits};
 ghost use Rattle.vortex_array_types.specs.Seen.{value_seen};
 ghost use Rattle.vortex_array_types.specs.Typed.{same_apart_from_nullability};
 ghost use Rattle.vortex_array_types.specs.declared.types.Nullability.{Nullability};
 ghost use Rattle.vortex_array_types.specs.declared.types.Nullability.TheVariants.{NonNullable};
 ghost use Rattle.vortex_array_kinds.specs.Validities.{is_as_long, valid_bits};
-ghost use Rattle.vortex_array_cast.specs.Filled.{filled, filled_items};
+ghost use Rattle.vortex_array_cast.specs.Filled.{filled, filled_in, filled_items};
 
 use std::alloc::{AllocError, Global};
 use vortex_array_kinds::{Kind, PlainArray, Validity, Values};
 use vortex_array_types::{DType, ValueRef};
-use vortex_buffer::Buffer;
+use vortex_buffer::{BitBuffer, Buffer};
 
 /// Values that are filled where they are not valid.
 pub trait FillValues: Values {
@@ -74,7 +74,7 @@ fn filled_values<V: FillValues>(
     }
 }
 
-// The items, and the fill at the places that are not valid.
+// The items, and the fill at the places that are not valid. The kind of validity is asked once.
 pub(crate) fn fill_items<T: Copy>(
     alloc: Global,
     items: &[T],
@@ -84,11 +84,132 @@ pub(crate) fn fill_items<T: Copy>(
     requires long { IsTrue (is_as_long validity.now (length items.now)) }
     ensures { IfOk result (λ b. b ≡ filled_items fill items.now (valid_bits validity.now (length items.now))) }
 {
-    let mut filled = Vec::with_capacity(alloc, items.len())?;
-    for i in 0..items.len() {
-        filled.push(item_or(items[i], validity.is_valid(i), fill))?;
+    match validity {
+        Validity::NonNullable | Validity::AllValid => {
+            let same = Buffer::from_slice(alloc, items)?;
+            Ok(same)
+        }
+        Validity::AllInvalid => equal_items(alloc, fill, items.len()),
+        Validity::Bits(bits) => fill_by_words(alloc, items, bits, fill),
     }
-    Ok(Buffer::from_vec(filled))
+}
+
+// So many equal items.
+#[tactic(auto, using(std::proofs::lemmas::List::replicate_more))]
+fn equal_items<T: Copy>(alloc: Global, item: T, count: usize) -> Result<Buffer<T>, AllocError>
+    ensures { IfOk result (λ b. b ≡ replicate count item) }
+{
+    let mut made = Vec::with_capacity(alloc, count)?;
+    for _ in 0..count {
+        made.push(item)?;
+    }
+    Ok(Buffer::from_vec(made))
+}
+
+// The items, and the fill where the bit is not set, by groups of 64.
+fn fill_by_words<T: Copy>(
+    alloc: Global,
+    items: &[T],
+    bits: &BitBuffer,
+    fill: T,
+) -> Result<Buffer<T>, AllocError>
+    requires same_length { length bits.now ≡ length items.now }
+    ensures { IfOk result (λ b. b ≡ filled_items fill items.now bits.now) }
+{
+    let mut room = Vec::from_elem(alloc, fill, 64)?;
+    fill_over(alloc, items, bits, fill, &mut room)
+}
+
+// The items, and the fill where the bit is not set, by groups of 64 that are written in the room.
+fn fill_over<T: Copy>(
+    alloc: Global,
+    items: &[T],
+    bits: &BitBuffer,
+    fill: T,
+    room: &mut [T],
+) -> Result<Buffer<T>, AllocError>
+    requires same_length { length bits.now ≡ length items.now }
+    requires room { length room.old ≡ 64 }
+    ensures { IfOk result (λ b. b ≡ filled_items fill items.now bits.now) }
+{
+    let mut made = Vec::with_capacity(alloc, items.len())?;
+    for k in 0..items.len().div_ceil(64) {
+        let start = 64 * k;
+        let end = start + (items.len() - start).min(64);
+        push_group(&mut made, &items[start..end], bits.word(k), fill, room)?;
+    }
+    Ok(Buffer::from_vec(made))
+}
+
+// Pushes the items of a group of at most 64, and the fill where the bit of the word is not set.
+#[inline(always)]
+fn push_group<T: Copy>(
+    made: &mut Vec<T>,
+    group: &[T],
+    word: u64,
+    fill: T,
+    room: &mut [T],
+) -> Result<(), AllocError>
+    requires small { length group.now ≤ 64 }
+    requires room { length room.old ≡ 64 }
+    ensures { OnOk result (made.new.items ≡ made.old.items ++ filled_in fill word group.now) }
+{
+    write_group(room, group, word, fill);
+    made.extend_from_slice(&room[..group.len()])?;
+    Ok(())
+}
+
+// Writes the items of a group to the front of the room, and the fill where the bit is not set.
+#[inline(always)]
+fn write_group<T: Copy>(room: &mut [T], group: &[T], word: u64, fill: T)
+    requires small { length group.now ≤ 64 }
+    requires room { length room.old ≡ 64 }
+    ensures { take (length group.now) room.new ≡ filled_in fill word group.now }
+{
+    if group.len() == 64 {
+        write_whole(room, group, word, fill);
+    } else {
+        write_some(room, group, word, fill);
+    }
+}
+
+// The same of a group of 64, by eights: a loop of eight is unrolled.
+#[inline(always)]
+fn write_whole<T: Copy>(room: &mut [T], group: &[T], word: u64, fill: T)
+    requires whole { length group.now ≡ 64 }
+    requires room { length room.old ≡ 64 }
+    ensures { take (length group.now) room.new ≡ filled_in fill word group.now }
+{
+    for k in 0..8 {
+        write_eight(room, group, word, 8 * k, fill);
+    }
+}
+
+// The eight from a place on, behind those that are written.
+#[inline(always)]
+fn write_eight<T: Copy>(room: &mut [T], group: &[T], word: u64, at: usize, fill: T)
+    requires inside { at + 8 ≤ length group.now }
+    requires whole { length group.now ≡ 64 }
+    requires room { length room.old ≡ 64 }
+    requires written { take at room.old ≡ take at (filled_in fill word group.now) }
+    ensures { take (at + 8) room.new ≡ take (at + 8) (filled_in fill word group.now) }
+{
+    let bits = word >> at;
+    for i in 0..8 {
+        room[at + i] = item_or(group[at + i], (bits >> i) & 1 == 1, fill);
+    }
+}
+
+// The same of a group of any length.
+#[inline(always)]
+fn write_some<T: Copy>(room: &mut [T], group: &[T], word: u64, fill: T)
+    requires small { length group.now ≤ 64 }
+    requires room { length room.old ≡ 64 }
+    ensures { take (length group.now) room.new ≡ filled_in fill word group.now }
+{
+    for i in 0..group.len() {
+        room[i] = item_or(group[i], (word >> i) & 1 == 1, fill);
+    }
 }
 
 // The item where it is valid, else the fill.

@@ -75,7 +75,7 @@ pub fn take_lists<P: RowIndex>(
     requires within { All (λ place. place < length lists.now) (map P.place places.now) }
     ensures ok { IfOk result (λ taken. taken ≡ map (λ place. slice_index_or lists.now place []) (map P.place places.now)) }
 {
-    let mut taken = ByteLists::new(alloc);
+    let mut taken = ByteLists::with_capacity(alloc, places.len())?;
     for place in places {
         taken.push(lists.get(place.place()))?;
     }
@@ -94,7 +94,7 @@ pub fn take_lists_or<P: RowIndex>(
     requires within { SetPlacesBelow (length lists.now) (map P.place places.now) valid.now }
     ensures ok { IfOk result (λ taken. taken ≡ taken_or [] lists.now (map P.place places.now) valid.now) }
 {
-    let mut taken = ByteLists::new(alloc);
+    let mut taken = ByteLists::with_capacity(alloc, places.len())?;
     for i in 0..places.len() {
         taken.push(list_or_empty(lists, places[i], valid.value(i)))?;
     }

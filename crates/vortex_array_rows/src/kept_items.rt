@@ -1,5 +1,5 @@
 // The values that a mask keeps, found by words of 64 bits.
-ghost use Rattle.std.specs.Prelude.{◌≡◌, ◌<◌, ◌≤◌, ◌*◌, ◌^◌, ◌++◌, IfOk, OnOk, length, take};
+ghost use Rattle.std.specs.Prelude.{◌≡◌, ◌<◌, ◌≤◌, ◌+◌, ◌*◌, ◌^◌, ◌++◌, IfOk, OnOk, length, take};
 ghost use Rattle.vortex_buffer.specs.Mask.{mask_bits};
 ghost use Rattle.vortex_array_rows.specs.Kept.{kept_by, kept_in};
 
@@ -115,6 +115,55 @@ fn push_walked<T: Copy>(kept: &mut Vec<T>, group: &[T], word: u64) -> Result<(),
 // next one over it where its bit is not set, so that there is no branch.
 #[inline(always)]
 fn pack_items<T: Copy>(room: &mut [T], group: &[T], word: u64) -> usize
+    requires small { length group.now ≤ 64 }
+    requires room { length room.old ≡ 64 }
+    ensures count { result ≤ 64 }
+    ensures packed { take result room.new ≡ kept_in word group.now }
+{
+    if group.len() == 64 {
+        return pack_whole(room, group, word);
+    }
+    pack_some(room, group, word)
+}
+
+// The same of a group of 64, by eights: a loop of eight is unrolled.
+#[inline(always)]
+fn pack_whole<T: Copy>(room: &mut [T], group: &[T], word: u64) -> usize
+    requires whole { length group.now ≡ 64 }
+    requires room { length room.old ≡ 64 }
+    ensures count { result ≤ 64 }
+    ensures packed { take result room.new ≡ kept_in word group.now }
+{
+    let mut count = 0usize;
+    for k in 0..8 {
+        count = pack_eight(room, group, word, 8 * k, count);
+    }
+    count
+}
+
+// Writes the items whose bit is set of the eight from a place on, behind those that are kept of the items before.
+#[inline(always)]
+fn pack_eight<T: Copy>(room: &mut [T], group: &[T], word: u64, at: usize, kept: usize) -> usize
+    requires inside { at + 8 ≤ length group.now }
+    requires whole { length group.now ≡ 64 }
+    requires room { length room.old ≡ 64 }
+    requires few { kept ≤ at }
+    requires packed { take kept room.old ≡ kept_in word (take at group.now) }
+    ensures few { result ≤ at + 8 }
+    ensures packed { take result room.new ≡ kept_in word (take (at + 8) group.now) }
+{
+    let bits = word >> at;
+    let mut count = kept;
+    for i in 0..8 {
+        room[count] = group[at + i];
+        count += ((bits >> i) & 1) as usize;
+    }
+    count
+}
+
+// The same of a group of any length.
+#[inline(always)]
+fn pack_some<T: Copy>(room: &mut [T], group: &[T], word: u64) -> usize
     requires small { length group.now ≤ 64 }
     requires room { length room.old ≡ 64 }
     ensures count { result ≤ 64 }

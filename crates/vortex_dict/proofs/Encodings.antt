@@ -96,25 +96,50 @@ either_true false = refl
 has_rooms : (a b c : Bool) → a ≡ true → (a && ((b || true) && (c || true))) ≡ true
 has_rooms a b c e = ap (λ x. x && ((b || true) && (c || true))) e ∙ ap (λ x. x && (c || true)) (either_true b) ∙ either_true c
 
-in_widest : (n : ℕ) → n < 18446744073709551616 → in_width width.U64 (pos n) ≡ true
-in_widest n l = grind (arith, ints)
+in_eight : (k : ℕ) → k < 256 → in_width width.U8 (pos k) ≡ true
+in_eight k l = grind (arith, ints)
 
--- a builder without limits lets each row in
-pub lets-in : (t : DType) (rows : List (Option Value)) (row : Option Value) → length rows < 18446744073709551616 → Takes (after (unlimited t) rows) row
-lets-in t rows row few =
+in_sixteen : (k : ℕ) → k < 65536 → in_width width.U16 (pos k) ≡ true
+in_sixteen k l = grind (arith, ints)
+
+in_thirty_two : (k : ℕ) → k < 4294967296 → in_width width.U32 (pos k) ≡ true
+in_thirty_two k l = grind (arith, ints)
+
+in_widest : (k : ℕ) → k < 18446744073709551616 → in_width width.U64 (pos k) ≡ true
+in_widest k l = grind (arith, ints)
+
+-- the least width that holds a bound holds each number up to it
+code_fits : (bound k : ℕ) → k ≤ bound → bound < 18446744073709551616 → in_width (least_code bound) (pos k) ≡ true
+code_fits bound k l few = by_first (nat_le bound 255) refl
+  where
+    by_third : (b : Bool) → nat_le bound 4294967295 ≡ b → in_width (cond b width.U32 width.U64) (pos k) ≡ true
+    by_third true e = in_thirty_two k (omega (arith, l, leb-true bound 4294967295 e))
+    by_third false e = in_widest k (omega (arith, l, few))
+
+    by_second : (b : Bool) → nat_le bound 65535 ≡ b → in_width (cond b width.U16 (cond (nat_le bound 4294967295) width.U32 width.U64)) (pos k) ≡ true
+    by_second true e = in_sixteen k (omega (arith, l, leb-true bound 65535 e))
+    by_second false e = by_third (nat_le bound 4294967295) refl
+
+    by_first : (b : Bool) → nat_le bound 255 ≡ b → in_width (cond b width.U8 (cond (nat_le bound 65535) width.U16 (cond (nat_le bound 4294967295) width.U32 width.U64))) (pos k) ≡ true
+    by_first true e = in_eight k (omega (arith, l, leb-true bound 255 e))
+    by_first false e = by_second (nat_le bound 65535) refl
+
+-- a builder without limits lets each of so many rows in
+pub lets-in : (t : DType) (n : ℕ) (rows : List (Option Value)) (row : Option Value) → length rows < n → n < 18446744073709551616 → Takes (after (unlimited t n) rows) row
+lets-in t n rows row few fits =
     let es = firsts rows in
-    let long : length es < 18446744073709551616 = omega (arith, few, firsts_long [] rows) in
-    let room = has_rooms (in_width width.U64 (pos (length es))) (nat_le (length es + 1) 18446744073709551615) (nat_le (all_bytes t es + entry_bytes t row) 18446744073709551615) (in_widest (length es) long) in
+    let long : length es < n = omega (arith, few, firsts_long [] rows) in
+    let room = has_rooms (in_width (least_code n) (pos (length es))) (nat_le (length es + 1) 18446744073709551615) (nat_le (all_bytes t es + entry_bytes t row) 18446744073709551615) (code_fits n (length es) (omega (arith, long)) fits) in
     ap (λ b. has_row es row || b) room ∙ either_true (has_row es row)
 
 -- so all rows of a column are encoded
-pub encodes-all : (c : Column) (d : DictParts) → length c.rows < 18446744073709551616 → EncodesPart (unlimited c.dtype) c d → IsDictOf c d
+pub encodes-all : (c : Column) (d : DictParts) → length c.rows < 18446744073709551616 → EncodesPart (unlimited c.dtype (length c.rows)) c d → IsDictOf c d
 encodes-all c d few h = by_count (cases_lt h.count (length c.rows))
   where
     by_count : (h.count < length c.rows) ⊎ (length c.rows ≤ h.count) → IsDictOf c d
     by_count (inl before) =
-        let short : length (take h.count c.rows) < 18446744073709551616 = omega (arith, few, before, length-take h.count c.rows) in
-        absurd (h.stops before (lets-in c.dtype (take h.count c.rows) (get_or c.rows h.count None) short))
+        let short : length (take h.count c.rows) < length c.rows = omega (arith, before, length-take h.count c.rows) in
+        absurd (h.stops before (lets-in c.dtype (length c.rows) (take h.count c.rows) (get_or c.rows h.count None) short few))
     by_count (inr all) = subst (λ (rs : List (Option Value)). IsDictOf (record { dtype = c.dtype; rows = rs }) d) (take_all h.count c.rows all) h.dict
 
 -- what a builder without entries encodes, as a dictionary
@@ -155,30 +180,9 @@ equal-codes c d e p q f g =
     named : (d : DictParts) → IsDictOf c d → map (row_at (firsts c.rows)) (column_of d.codes).rows ≡ c.rows
     named d f = ap (λ (rs : List (Option Value)). map (row_at rs) (column_of d.codes).rows) (sym (values d f)) ∙ ap (λ (k : Column). k.rows) f.rows
 
-in_eight : (k : ℕ) → k < 256 → in_width width.U8 (pos k) ≡ true
-in_eight k l = grind (arith, ints)
-
-in_sixteen : (k : ℕ) → k < 65536 → in_width width.U16 (pos k) ≡ true
-in_sixteen k l = grind (arith, ints)
-
-in_thirty_two : (k : ℕ) → k < 4294967296 → in_width width.U32 (pos k) ≡ true
-in_thirty_two k l = grind (arith, ints)
-
--- the least width of so many places holds each of them
+-- so the least width of so many places holds each of them
 place_fits : (n k : ℕ) → k < n → n < 18446744073709551616 → in_width (width_of_places n) (pos k) ≡ true
-place_fits n k l few = by_first (nat_le (n - 1) 255) refl
-  where
-    by_third : (b : Bool) → nat_le (n - 1) 4294967295 ≡ b → in_width (cond b width.U32 width.U64) (pos k) ≡ true
-    by_third true e = in_thirty_two k (omega (arith, l, leb-true (n - 1) 4294967295 e))
-    by_third false e = in_widest k (omega (arith, l, few))
-
-    by_second : (b : Bool) → nat_le (n - 1) 65535 ≡ b → in_width (cond b width.U16 (cond (nat_le (n - 1) 4294967295) width.U32 width.U64)) (pos k) ≡ true
-    by_second true e = in_sixteen k (omega (arith, l, leb-true (n - 1) 65535 e))
-    by_second false e = by_third (nat_le (n - 1) 4294967295) refl
-
-    by_first : (b : Bool) → nat_le (n - 1) 255 ≡ b → in_width (cond b width.U8 (cond (nat_le (n - 1) 65535) width.U16 (cond (nat_le (n - 1) 4294967295) width.U32 width.U64))) (pos k) ≡ true
-    by_first true e = in_eight k (omega (arith, l, leb-true (n - 1) 255 e))
-    by_first false e = by_second (nat_le (n - 1) 65535) refl
+place_fits n k l few = code_fits (n - 1) k (omega (arith, l)) (omega (arith, few))
 
 -- so codes that name one of so many values fit it
 pub codes-fit : (n : ℕ) (codes : Column) (i : ℕ) → n < 18446744073709551616 → All (IndexBelow n) codes.rows → HaveNoNull codes.rows → FirstUnfit (dtype.Primitive (width_of_places n) nulls.NonNullable) codes.rows i → ⊥

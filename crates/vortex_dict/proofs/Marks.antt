@@ -9,8 +9,9 @@ use Rattle.vortex_array_types.specs.Row.{Column}
 use Rattle.vortex_array_types.specs.declared.scalar.Value.{Value}
 use Rattle.vortex_array_types.specs.declared.scalar.Value.TheVariants as value
 use Rattle.vortex_array_kinds.specs.Parts.{ConstantParts}
-use Rattle.vortex_array_kinds.specs.Validities.{is_as_long, valid_at}
+use Rattle.vortex_array_kinds.specs.Validities.{has_none, is_as_long, valid_at}
 use Rattle.vortex_array_kinds.specs.declared.validity.Validity.{Validity}
+use Rattle.vortex_array_kinds.specs.declared.validity.Validity.TheVariants.{NonNullable, AllValid, AllInvalid, Bits}
 use Rattle.vortex_array_select.specs.Selected.{IndexBelow, row_at}
 use Rattle.vortex_array_select.specs.SelectedParts.{PlacesBelow}
 use Rattle.vortex_array_select.proofs.TakenRows.{index_rows, length-taken, places-below, taken-at}
@@ -84,6 +85,20 @@ marks-more v places n marks valid l h = record {
 pub marks-step : (v : Validity) (places : List ℕ) (n : ℕ) (marks : List Bool) (b : Bool) (p : ℕ) → b ≡ valid_at v n → p ≡ get_or places n 0 → (b ≡ true → p < length marks) → MarkFirst v places n marks → MarkFirst v places (n + 1) (cond b (set marks p true) marks)
 marks-step v places n marks true p valid is below h = rw is (marks-more v places n marks (sym valid) (subst (λ k. k < length marks) is (below refl)) h)
 marks-step v places n marks false p valid is below h = marks-skip v places n marks (sym valid) h
+
+-- where no place is null, each is one
+pub none-null : (v : Validity) (k : ℕ) → has_none v ≡ true → valid_at v k ≡ true
+none-null NonNullable k e = refl
+none-null AllValid k e = refl
+none-null AllInvalid k e = absurd (false≢true e)
+none-null (Bits bits) k e = absurd (false≢true e)
+
+-- where each place is null, none is marked
+pub marks-nowhere : (v : Validity) (places : List ℕ) (n : ℕ) (marks : List Bool) → v ≡ AllInvalid → marks ≡ replicate (length marks) false → MarkFirst v places n marks
+marks-nowhere v places n marks is none = record {
+  named = λ p m. absurd (let at = (marks-none v places marks none).named p m in omega (arith, at.before));
+  marked = λ p at. absurd (false≢true (sym (ap (λ w. valid_at w at.row) is) ∙ at.valid));
+}
 
 -- the number of a code
 abbrev code_number : Option Value → ℕ

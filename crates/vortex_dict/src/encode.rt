@@ -114,9 +114,12 @@ fn dict_of(
     ensures values { IfOk result (λ d. d.values ≡ values) }
     ensures err { IfErr result (λ e. e ≡ errors.OutOfMemory) }
 {
-    let width = code_width(values.len());
+    let dtype = DType::Primitive(code_width(values.len()), Nullability::NonNullable);
     let codes = Array::Primitive(codes);
-    match codes.cast(alloc, &DType::Primitive(width, Nullability::NonNullable)) {
+    if codes.dtype() == dtype {
+        return Ok(DictArray::new(codes, values));
+    }
+    match codes.cast(alloc, &dtype) {
         Ok(codes) => Ok(DictArray::new(codes, values)),
         Err(CastError::OutOfMemory) => Err(DictEncodeError::OutOfMemory),
         Err(CastError::Unsupported) => unreachable!(),

@@ -1,8 +1,9 @@
 // Which values of a dictionary a code names. Codes are read in their own width, in one pass.
-ghost use Rattle.std.specs.Prelude.{◌≡◌, ◌<◌, IfOk, IsTrue, false, if◌then◌else◌, length, map, pos, replicate, slice_set, true};
+ghost use Rattle.std.specs.Prelude.{◌≡◌, ◌<◌, IfOk, IsTrue, false, if◌then◌else◌, length, map, pos, replicate, slice_index_or, slice_set, true};
 ghost use Rattle.vortex_buffer.specs.Mask.{mask_bits};
 ghost use Rattle.vortex_array_kinds.specs.Kinds.{constant_column, primitive_column};
-ghost use Rattle.vortex_array_kinds.specs.Validities.{is_as_long};
+ghost use Rattle.vortex_array_kinds.specs.Validities.{has_none, is_as_long};
+ghost use Rattle.vortex_array_kinds.specs.declared.validity.Validity.TheVariants as validities;
 ghost use Rattle.vortex_array_select.specs.Selected.{NamesRows};
 ghost use Rattle.vortex_array_select.specs.SelectedParts.{PlacesBelow};
 ghost use Rattle.vortex_array.specs.ColumnOf.{column_of};
@@ -13,7 +14,7 @@ use crate::codes::{each_code_width, number_of};
 use std::alloc::{AllocError, Global};
 use vortex_array::{Array, ConstantArray, PrimitiveArray, PrimitiveBuffer, Validity};
 use vortex_array_rows::RowIndex;
-use vortex_buffer::{Buffer, Mask};
+use vortex_buffer::{BitBuffer, Buffer, Mask};
 use vortex_compute::collect_bits;
 
 // For each of so many values whether a code names it.
@@ -69,15 +70,51 @@ fn mask_named<P: RowIndex>(
     mask_of(alloc, marks)
 }
 
-// Marks each place that is not null.
+// Marks each place that is not null. The kind of validity is asked once.
 fn mark_places<P: RowIndex>(places: &[P], nulls: &Validity, marks: &mut [bool])
     requires unmarked { marks.old ≡ replicate (length marks.old) false }
     requires below { PlacesBelow (length marks.old) nulls.now (map P.place places.now) }
     ensures { MarkNamed nulls.now (map P.place places.now) marks.new }
 {
-    for row in 0..places.len() {
-        mark_place(marks, places[row], nulls.is_valid(row));
+    match nulls {
+        Validity::NonNullable | Validity::AllValid => mark_all(places, nulls, marks),
+        Validity::AllInvalid => {}
+        Validity::Bits(bits) => mark_set(places, nulls, bits, marks),
     }
+}
+
+// Marks each place where none is null.
+fn mark_all<P: RowIndex>(places: &[P], nulls: &Validity, marks: &mut [bool])
+    requires unmarked { marks.old ≡ replicate (length marks.old) false }
+    requires below { PlacesBelow (length marks.old) nulls.now (map P.place places.now) }
+    requires full { has_none nulls.now ≡ true }
+    ensures { MarkNamed nulls.now (map P.place places.now) marks.new }
+{
+    let _ = nulls;
+    for row in 0..places.len() {
+        marks[places[row].place()] = true;
+    }
+}
+
+// Marks each place whose bit is set.
+fn mark_set<P: RowIndex>(places: &[P], nulls: &Validity, bits: &BitBuffer, marks: &mut [bool])
+    requires unmarked { marks.old ≡ replicate (length marks.old) false }
+    requires below { PlacesBelow (length marks.old) nulls.now (map P.place places.now) }
+    requires bits { nulls.now ≡ validities.Bits bits.now }
+    ensures { MarkNamed nulls.now (map P.place places.now) marks.new }
+{
+    let _ = nulls;
+    for row in 0..places.len() {
+        mark_place(marks, places[row], is_set(bits, row));
+    }
+}
+
+// Whether a bit is set: none is past the end.
+#[inline(always)]
+fn is_set(bits: &BitBuffer, row: usize) -> bool
+    ensures { result ≡ slice_index_or bits.now row false }
+{
+    row < bits.len() && bits.value(row)
 }
 
 // Marks a place that is not null.

@@ -54,6 +54,6 @@ abbrev pub encoder_for : DType → DictConstraints → Encoder
 encoder_for (Primitive w n) limits = numbers_encoder w n limits
 encoder_for t limits = empty_encoder t limits (least_code limits.max_len)
 
--- the builder of a type that lets every row in
-abbrev pub unlimited : DType → Encoder
-unlimited t = empty_encoder t (record { max_bytes = 18446744073709551615; max_len = 18446744073709551615 }) width.U64
+-- the builder of a type that lets each of so many rows in
+abbrev pub unlimited : DType → ℕ → Encoder
+unlimited t n = empty_encoder t (record { max_bytes = 18446744073709551615; max_len = 18446744073709551615 }) (least_code n)

@@ -1,5 +1,5 @@
 // A builder of dictionaries for rows of any kind that is encoded.
-ghost use Rattle.std.specs.Prelude.{◌≡◌, IfErr, IfOk, IsFalse, IsTrue, OnErr, OnOk};
+ghost use Rattle.std.specs.Prelude.{◌≡◌, IfErr, IfOk, IsFalse, IsTrue, OnErr, OnOk, length};
 ghost use Rattle.vortex_array_types.specs.declared.types.DType.TheVariants as dtypes;
 ghost use Rattle.vortex_array_kinds.specs.StringValues.{is_string_type};
 ghost use Rattle.vortex_array.specs.ColumnOf.{column_of};
@@ -211,15 +211,16 @@ pub fn dict_encoder(
     }
 }
 
-/// The builder without entries for the type of an array that lets every row in: it has no limit, and its codes are of the widest
-/// width. It is refused exactly for truth values and decimals, and else takes no memory.
+/// The builder without entries for the type of an array that lets each of its rows in: it has no limit, and its codes are of the
+/// least width that holds as many places as there are rows. It is refused exactly for truth values and decimals, and else takes no
+/// memory.
 pub fn unlimited_encoder(alloc: Global, array: &Array) -> Result<AnyDictEncoder, DictEncodeError>
-    ensures ok { IfOk result (λ e. any_encoder e ≡ unlimited (column_of array.now).dtype) }
+    ensures ok { IfOk result (λ e. any_encoder e ≡ unlimited (column_of array.now).dtype (length (column_of array.now).rows)) }
     ensures fits { OnOk result (IsTrue (is_encoded_type (column_of array.now).dtype)) }
     ensures err { IfErr result (λ e. e ≡ errors.CannotEncode) }
     ensures cannot { OnErr result (IsFalse (is_encoded_type (column_of array.now).dtype)) }
 {
-    let bound = UNCONSTRAINED.max_len;
+    let bound = array.len();
     match array.dtype() {
         DType::Primitive(width, nullability) => Ok(numbers_builder(
             alloc,

@@ -1,9 +1,9 @@
 // A builder of dictionaries, whatever the kind of its rows and the width of its codes: one loop over the rows.
-ghost use Rattle.std.specs.Prelude.{◌≡◌, ◌≢◌, ◌<◌, [], IfNone, IfOk, IfSome, IsFalse, IsTrue, None, OnErr, OnOk, is_some, length, map, pos, slice_index_or};
+ghost use Rattle.std.specs.Prelude.{◌≡◌, ◌≢◌, ◌<◌, ◌++◌, ◌∷◌, [], IfNone, IfOk, IfSome, IsFalse, IsTrue, None, OnErr, OnOk, is_some, length, map, pos, slice_index_or};
 ghost use Rattle.vortex_array_kinds.specs.Kinds.{plain_column, primitive_column};
 ghost use Rattle.vortex_array.specs.ColumnOf.{column_of, is_plain};
 ghost use Rattle.vortex_dict_builders.specs.Building.{EncodesRow, EncodesTo, LeavesRow, code_column};
-ghost use Rattle.vortex_dict_builders.specs.Encoder.{lets_be as is_let, room_for};
+ghost use Rattle.vortex_dict_builders.specs.Encoder.{entry_bytes, lets_be as is_let, room_for, with_entries};
 ghost use Rattle.vortex_dict_builders.specs.Encodes.{Encodes, EncodesSome};
 ghost use Rattle.vortex_dict_builders.specs.Firsts.{has_row};
 
@@ -118,11 +118,30 @@ impl<E: Entries, Code: CodeType> DictBuilder<E, Code> {
         match self.next_code(cost) {
             None => Ok(None),
             Some(code) => {
-                self.entries.push(rows, i)?;
-                self.total = self.total.saturating_add(cost);
+                self.push_row(rows, i, cost)?;
                 Ok(Some(code))
             }
         }
+    }
+
+    // Puts a row that is no entry and is let in behind the others, at what it costs.
+    fn push_row(
+        &mut self,
+        rows: &PlainArray<E::Stored>,
+        i: usize,
+        cost: usize,
+    ) -> Result<(), AllocError>
+        requires same_type { (plain_column E.Stored.type_of E.Stored.items rows.now).dtype ≡ self.old.dtype }
+        requires inside { i < length (plain_column E.Stored.type_of E.Stored.items rows.now).rows }
+        requires absent { IsFalse (has_row self.old.entries (slice_index_or (plain_column E.Stored.type_of E.Stored.items rows.now).rows i None)) }
+        requires cost { cost ≡ entry_bytes self.old.dtype (slice_index_or (plain_column E.Stored.type_of E.Stored.items rows.now).rows i None) }
+        requires room { IsTrue (room_for self.old cost) }
+        ensures ok { OnOk result (self.new ≡ with_entries (self.old.entries ++ slice_index_or (plain_column E.Stored.type_of E.Stored.items rows.now).rows i None ∷ []) self.old) }
+        ensures err { OnErr result (self.new ≡ self.old) }
+    {
+        self.entries.push(rows, i)?;
+        self.total = self.total.saturating_add(cost);
+        Ok(())
     }
 
     // The code of a row, which is an entry then, or none where it is no entry and is not let in.
@@ -173,7 +192,22 @@ impl<E: Entries, Code: CodeType + PrimitiveWidth> DictBuilder<E, Code> {
         ensures err { OnErr result (EncodesSome self.old (plain_column E.Stored.type_of E.Stored.items rows.now).rows self.new) }
         ensures width { self.old.width ≡ Code.width }
     {
-        let mut codes = Vec::with_capacity(self.alloc, rows.len())?;
+        let room = Vec::with_capacity(self.alloc, rows.len())?;
+        self.codes_in(rows, room)
+    }
+
+    // The same in this room, which is for as many.
+    fn codes_in(
+        &mut self,
+        rows: &PlainArray<E::Stored>,
+        room: Vec<Code>,
+    ) -> Result<Vec<Code>, AllocError>
+        requires same_type { (plain_column E.Stored.type_of E.Stored.items rows.now).dtype ≡ self.old.dtype }
+        requires none { room.items ≡ [] }
+        ensures ok { IfOk result (λ codes. EncodesTo self.old (plain_column E.Stored.type_of E.Stored.items rows.now).rows (map Code.number codes.items) self.new) }
+        ensures err { OnErr result (EncodesSome self.old (plain_column E.Stored.type_of E.Stored.items rows.now).rows self.new) }
+    {
+        let mut codes = room;
         self.push_codes(rows, &mut codes)?;
         Ok(codes)
     }

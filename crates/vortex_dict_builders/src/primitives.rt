@@ -1,5 +1,6 @@
 // Entries that are whole numbers, found by a hashed map from each to its place.
-ghost use Rattle.std.specs.Prelude.{◌≡◌, ◌<◌, ◌++◌, ◌∷◌, [], IfNone, IfSome, IsTrue, OnErr, OnOk, false, length, pos, slice_index_or, true};
+ghost use Rattle.std.specs.Prelude.{◌≡◌, ◌<◌, ◌++◌, ◌∷◌, [], IfNone, IfOk, IfSome, IsTrue, OnErr, OnOk, Some, cond, false, length, pos, slice_index_or, true};
+ghost use Rattle.std.specs.HashMap.{get, spare};
 ghost use Rattle.vortex_array_types.specs.declared.types.DType.TheVariants as dtypes;
 ghost use Rattle.vortex_array_types.specs.declared.types.Nullability.TheVariants.{Nullable};
 ghost use Rattle.vortex_array_kinds.specs.Validities.{is_as_long, nullability_of};
@@ -12,7 +13,7 @@ ghost use Rattle.vortex_dict_builders.specs.KeptColumns.{number_entries};
 use crate::builder::DictBuilder;
 use crate::constraints::DictConstraints;
 use crate::entries::Entries;
-use crate::validities::{of_no_row, push_entry};
+use crate::validities::{number_of_place, of_no_row, push_entry};
 use std::alloc::{AllocError, Global};
 use std::collections::HashMap;
 use std::marker::Model;
@@ -28,7 +29,8 @@ pub struct PrimitiveEntries<T: PrimitiveWidth> {
     items: Vec<T>,
     validity: Validity,
     null_place: Option<usize>,
-    places: HashMap<T, usize>,
+    // By item, the place of its entry. Places take 32 bits, so that more of the map lies in caches.
+    places: HashMap<T, u32>,
 }
 
 impl<T: PrimitiveWidth> Drop for PrimitiveEntries<T> {
@@ -84,7 +86,7 @@ impl<T: PrimitiveWidth> PrimitiveEntries<T> {
         ensures some { IfSome result (IsItem T.eq self.now.values self.now.validity item) }
     {
         match self.places.get(&item) {
-            Some(place) => Some(*place),
+            Some(place) => Some(*place as usize),
             None => None,
         }
     }
@@ -104,10 +106,9 @@ impl<T: PrimitiveWidth> PrimitiveEntries<T> {
         ensures ok { OnOk result (self.new ≡ record { values = self.old.values ++ item ∷ []; validity = with_row true self.old.validity }) }
         ensures err { OnErr result (self.new ≡ self.old) }
     {
-        let place = self.items.len();
-        self.places.reserve(1)?;
+        let place = place_with_room(&mut self.places, self.items.len())?;
         push_entry(&mut self.items, &mut self.validity, item, true)?;
-        let _ = self.places.insert(item, place);
+        put_place(&mut self.places, item, place);
         Ok(())
     }
 
@@ -123,6 +124,29 @@ impl<T: PrimitiveWidth> PrimitiveEntries<T> {
         self.null_place = Some(place);
         Ok(())
     }
+}
+
+// A place as a number, and room for it in a map, which finds what it found.
+fn place_with_room<T: PrimitiveWidth>(
+    places: &mut HashMap<T, u32>,
+    place: usize,
+) -> Result<u32, AllocError>
+    ensures number { IfOk result (λ number. number ≡ place) }
+    ensures room { OnOk result (0 < spare places.new) }
+    ensures same { (x : T) → get T.eq places.new x ≡ get T.eq places.old x }
+{
+    let number = number_of_place(place)?;
+    places.reserve(1)?;
+    Ok(number)
+}
+
+// A place of an item, for which there is room.
+#[inline(always)]
+fn put_place<T: PrimitiveWidth>(places: &mut HashMap<T, u32>, item: T, place: u32)
+    requires { 0 < spare places.old }
+    ensures { (x : T) → get T.eq places.new x ≡ cond (T.eq item x) (Some place) (get T.eq places.old x) }
+{
+    let _ = places.insert(item, place);
 }
 
 // The item at a place of numbers of this width.
@@ -181,10 +205,22 @@ impl<T: PrimitiveWidth> Entries for PrimitiveEntries<T> {
     }
 
     fn to_array(&self, alloc: Global) -> Result<Array, AllocError> {
-        let items = Buffer::from_slice(alloc, &self.items)?;
-        let validity = self.validity.try_clone(alloc)?;
-        Ok(number_array(items, validity))
+        copied_array(alloc, &self.items, &self.validity)
     }
+}
+
+// A copy of numbers under a validity as an array.
+fn copied_array<T: PrimitiveWidth>(
+    alloc: Global,
+    items: &[T],
+    validity: &Validity,
+) -> Result<Array, AllocError>
+    requires { IsTrue (is_as_long validity.now (length items.now)) }
+    ensures { IfOk result (λ a. column_of a ≡ number_entries T.width T.number (record { values = items.now; validity = validity.now })) }
+{
+    let items = Buffer::from_slice(alloc, items)?;
+    let validity = validity.try_clone(alloc)?;
+    Ok(number_array(items, validity))
 }
 
 // Numbers under a validity as an array.

@@ -1,7 +1,7 @@
 // Entries that are texts or lists of bytes, each kept once: a hashed map goes from the hash of a list to the newest entry that
 // has it, and from each entry a chain leads to the older ones of its hash. So the map has no list of its own.
-ghost use Rattle.std.specs.Prelude.{◌≡◌, ◌<◌, ◌++◌, ◌∷◌, [], IfNone, IfSome, IsTrue, OnErr, OnOk, false, length, nat_eq, slice_index_or, true};
-ghost use Rattle.std.specs.HashMap.{get};
+ghost use Rattle.std.specs.Prelude.{◌≡◌, ℕ, ◌<◌, ◌++◌, ◌∷◌, [], IfNone, IfOk, IfSome, IsTrue, OnErr, OnOk, Some, cond, false, length, nat_eq, slice_index_or, true, vec_capacity};
+ghost use Rattle.std.specs.HashMap.{get, spare};
 ghost use Rattle.vortex_array_types.specs.declared.types.Nullability.TheVariants.{Nullable};
 ghost use Rattle.vortex_array_kinds.specs.Kinds.{string_column, string_type};
 ghost use Rattle.vortex_array_kinds.specs.Pushed.{Grows, with_row};
@@ -13,7 +13,7 @@ ghost use Rattle.vortex_dict_builders.specs.Indexed.{AllPresent, IsAt, IsNullAt,
 use crate::builder::DictBuilder;
 use crate::constraints::DictConstraints;
 use crate::entries::Entries;
-use crate::validities::of_no_row;
+use crate::validities::{number_of_place, of_no_row};
 use std::alloc::{AllocError, Global};
 use std::collections::HashMap;
 use std::hash::{FoldHasher, Hasher};
@@ -31,8 +31,8 @@ pub struct StringEntries {
     validity: Validity,
     null_place: Option<usize>,
     hasher: FoldHasher,
-    // By hash, the place of the newest entry that has it.
-    newest: HashMap<u64, usize>,
+    // By hash, the place of the newest entry that has it. Places take 32 bits, so that more of the map lies in caches.
+    newest: HashMap<u64, u32>,
     // For each entry that is a list, one more than the place of the next older one of its hash, or 0 where there is none.
     older: Vec<usize>,
 }
@@ -149,12 +149,10 @@ impl StringEntries {
         ensures err { OnErr result (self.new ≡ self.old) }
     {
         let hash = hash_of(self.hasher, bytes);
-        let place = self.older.len();
-        let next = newest_of(&self.newest, hash, place);
-        self.older.reserve(1)?;
-        self.newest.reserve(1)?;
+        let next = newest_of(&self.newest, hash, self.older.len());
+        let place = place_with_room(&mut self.newest, &mut self.older)?;
         push_string(&mut self.strings, &mut self.validity, bytes, true)?;
-        let _ = self.newest.insert(hash, place);
+        put_newest(&mut self.newest, hash, place);
         let _ = self.older.push(next);
         Ok(())
     }
@@ -177,15 +175,41 @@ impl StringEntries {
 
 // One more than the place that a map has for a hash, or 0 where it has none. Places are below a bound.
 #[inline(always)]
-fn newest_of(newest: &HashMap<u64, usize>, hash: u64, bound: usize) -> usize
+fn newest_of(newest: &HashMap<u64, u32>, hash: u64, bound: usize) -> usize
     requires { IfSome (get nat_eq newest.now hash) (λ place. place < bound) }
     ensures { result ≡ number_of (get nat_eq newest.now hash) }
 {
     let _ = bound;
     match newest.get(&hash) {
-        Some(place) => *place + 1,
+        Some(place) => *place as usize + 1,
         None => 0,
     }
+}
+
+// The place of the next entry as a number, and room for it: the map finds what it found.
+fn place_with_room(
+    newest: &mut HashMap<u64, u32>,
+    older: &mut Vec<usize>,
+) -> Result<u32, AllocError>
+    ensures number { IfOk result (λ number. number ≡ length older.old.items) }
+    ensures room { OnOk result (0 < spare newest.new) }
+    ensures behind { OnOk result (length older.new.items < vec_capacity older.new) }
+    ensures same { (h : ℕ) → get nat_eq newest.new h ≡ get nat_eq newest.old h }
+    ensures kept { older.new.items ≡ older.old.items }
+{
+    let number = number_of_place(older.len())?;
+    older.reserve(1)?;
+    newest.reserve(1)?;
+    Ok(number)
+}
+
+// The place of the newest entry of a hash, for which there is room.
+#[inline(always)]
+fn put_newest(newest: &mut HashMap<u64, u32>, hash: u64, place: u32)
+    requires { 0 < spare newest.old }
+    ensures { (h : ℕ) → get nat_eq newest.new h ≡ cond (nat_eq hash h) (Some place) (get nat_eq newest.old h) }
+{
+    let _ = newest.insert(hash, place);
 }
 
 // One more list, which is an entry or stands for null. Where memory is wanting, both stay.

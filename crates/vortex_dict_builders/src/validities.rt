@@ -1,5 +1,5 @@
 // The validity of entries, which are added one by one.
-ghost use Rattle.std.specs.Prelude.{◌≡◌, ◌++◌, ◌∷◌, [], OnErr, OnOk, length};
+ghost use Rattle.std.specs.Prelude.{◌≡◌, ◌++◌, ◌∷◌, [], IfOk, OnErr, OnOk, length};
 ghost use Rattle.vortex_array_kinds.specs.Pushed.{Grows, no_row, with_row};
 
 use std::alloc::{AllocError, Global};
@@ -55,4 +55,15 @@ pub(crate) fn push_entry<T: Copy>(
     push_row(validity, count, present)?;
     let _ = items.push(item);
     Ok(())
+}
+
+// A place as its number in 32 bits. A map has no room for more entries than that, so that memory is wanting before.
+#[inline(always)]
+pub(crate) fn number_of_place(place: usize) -> Result<u32, AllocError>
+    ensures { IfOk result (λ number. number ≡ place) }
+{
+    if place > 4294967295 {
+        return Err(AllocError);
+    }
+    Ok(place as u32)
 }

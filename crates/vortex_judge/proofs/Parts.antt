@@ -8,7 +8,7 @@ use Rattle.std.proofs.lemmas.List.Elements.{filter-append}
 use Rattle.vortex_array_types.specs.declared.column.ColumnDesc.{ColumnDesc}
 use Rattle.vortex_scan_types.specs.declared.request.ScanRequest.{ScanRequest}
 use Rattle.vortex_array_types.specs.Cells.{Row, cell_of}
-use Rattle.vortex_table.specs.Chosen.{Placed, is_chosen, projected, projected_names, placed_rows}
+use Rattle.vortex_table_types.specs.Chosen.{Placed, is_chosen, projected, projected_names, placed_rows}
 use Rattle.vortex_judge.specs.Steps.{chosen_part}
 
 -- the list from place i on begins with what stands there

@@ -6,7 +6,7 @@ use Rattle.vortex_array_types.specs.Row.{Column}
 use Rattle.vortex_array_types.specs.declared.column.ColumnDesc.{ColumnDesc}
 use Rattle.vortex_scan_types.specs.declared.request.ScanRequest.{ScanRequest}
 use Rattle.vortex_array_types.specs.Cells.{Row}
-use Rattle.vortex_table.specs.Chosen.{Placed, is_chosen, projected}
+use Rattle.vortex_table_types.specs.Chosen.{Placed, is_chosen, projected}
 
 -- the chosen rows of a partition, the first of which has this number
 abbrev pub chosen_part : ScanRequest → List ColumnDesc → ℕ → ℕ → List Row → List Placed

@@ -1,10 +1,10 @@
 // What a request asks of a table, from its description and the content of its sources.
 // Lists are walked by recursion on their first item, as the definitions do.
 ghost use Rattle.std.specs.Prelude.{◌≡◌, [], ◌∷◌, ◌++◌, ◌+◌, ◌<◌, ◌≤◌, ◌^◌, ◌↔◌, IsTrue, length, None, IfOk, OnOk, All, filter_map, flat_map, map, slice_get, sum_by, unwrap_or, zip};
-ghost use Rattle.vortex_table.specs.Answers.{asked};
-ghost use Rattle.vortex_table.specs.Chosen.{projected_types};
+ghost use Rattle.vortex_table_types.specs.Answers.{asked};
+ghost use Rattle.vortex_table_types.specs.Chosen.{projected_types};
 ghost use Rattle.vortex_array_types.specs.Cells.{dtype_of};
-ghost use Rattle.vortex_table.specs.Table.{decoded, partition_rows, row_at as row_there, scopes_from, split_rows, split_scopes};
+ghost use Rattle.vortex_table_types.specs.Table.{decoded, partition_rows, row_at as row_there, scopes_from, split_rows, split_scopes};
 
 use crate::batch::{PlainColumn, PlainContent, PlainSplit, Question};
 use crate::chosen::chosen_rows;

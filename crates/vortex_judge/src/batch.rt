@@ -101,7 +101,7 @@ impl Drop for PlainContent {
 }
 
 impl Model for PlainContent {
-    ghost use Rattle.vortex_table.specs.Table.{Content};
+    ghost use Rattle.vortex_table_types.specs.Table.{Content};
 
     ghost Value = { Content };
 
@@ -143,7 +143,7 @@ impl Drop for PlainBatch {
 }
 
 impl Model for PlainBatch {
-    ghost use Rattle.vortex_table.specs.Answers.{Given};
+    ghost use Rattle.vortex_table_types.specs.Answers.{Given};
 
     ghost Value = { Given };
 
@@ -206,7 +206,7 @@ impl Drop for Question {
 }
 
 impl Model for Question {
-    ghost use Rattle.vortex_table.specs.Answers.{Asked};
+    ghost use Rattle.vortex_table_types.specs.Answers.{Asked};
 
     ghost Value = { Asked };
 

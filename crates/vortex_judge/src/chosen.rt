@@ -2,7 +2,7 @@
 ghost use Rattle.std.specs.Prelude.{◌≡◌, ◌++◌, ◌^◌, ◌<◌, length, map, filter, option_copied, IfOk, OnOk};
 ghost use Rattle.vortex_array_types.specs.Cells.{cell_of};
 ghost use Rattle.vortex_judge.specs.Steps.{chosen_part};
-ghost use Rattle.vortex_table.specs.Chosen.{chosen, is_chosen as is_chosen_row, placed_rows, projected, projected_names};
+ghost use Rattle.vortex_table_types.specs.Chosen.{chosen, is_chosen as is_chosen_row, placed_rows, projected, projected_names};
 
 use crate::members::is_selected;
 use crate::rows::{PlacedRow, PlainRow, PlainTable};

@@ -2,7 +2,7 @@
 ghost use Rattle.std.specs.Prelude.{◌≡◌, ◌↔◌, IsTrue, length};
 ghost use Rattle.std.specs.List.{AllZip, list_all};
 ghost use Rattle.vortex_array_types.specs.Row.{fits_column, fits_type};
-ghost use Rattle.vortex_table.specs.Table.{FitsChunk, FitsPartition};
+ghost use Rattle.vortex_table_types.specs.Table.{FitsChunk, FitsPartition};
 
 use crate::batch::{PlainColumn, PlainContent, PlainSplit};
 use crate::same::same_dtype;

@@ -1,8 +1,8 @@
 // Whether batches are an answer to a question: one test for each clause of the definition.
 ghost use Rattle.std.specs.Prelude.{◌≡◌, ◌≢◌, OnOk, ◌++◌, ◌↔◌, ◌<◌, ◌≤◌, ℕ, [], ◌∷◌, All, AllPairs, Contains, IfOk, IsTrue, drop, filter, flat_map, length, map, take, slice_index_or, slice_get, unwrap_or};
-ghost use Rattle.vortex_table.specs.Chosen.{lies_in, rows_in as rows_of_scope};
+ghost use Rattle.vortex_table_types.specs.Chosen.{lies_in, rows_in as rows_of_scope};
 ghost use Rattle.vortex_judge.specs.Steps.{Before};
-ghost use Rattle.vortex_table.specs.Answers.{Answers, InOrder, IsBefore, IsPrefix, columns_of as columns_under, count_of, stands_for as first_rows, within};
+ghost use Rattle.vortex_table_types.specs.Answers.{Answers, InOrder, IsBefore, IsPrefix, columns_of as columns_under, count_of, stands_for as first_rows, within};
 
 use crate::batch::{PlainBatch, PlainColumn, Question};
 use crate::rows::{PlacedRow, PlainRow};

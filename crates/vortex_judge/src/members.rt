@@ -1,7 +1,7 @@
 // Which places selections and ranges hold.
 ghost use Rattle.std.specs.Prelude.{◌≡◌};
 ghost use Rattle.vortex_scan_types.specs.Members.{in_selection, in_some_range, is_listed};
-ghost use Rattle.vortex_table.specs.Chosen.{is_partition_chosen as is_chosen_partition, is_selected as is_selected_row};
+ghost use Rattle.vortex_table_types.specs.Chosen.{is_partition_chosen as is_chosen_partition, is_selected as is_selected_row};
 
 use std::ops::Range;
 use vortex_scan_types::{ScanRequest, Selection};

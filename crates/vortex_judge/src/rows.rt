@@ -93,7 +93,7 @@ impl Drop for PlainTable {
 }
 
 impl Model for PlainTable {
-    ghost use Rattle.vortex_table.specs.Table.{Decoded};
+    ghost use Rattle.vortex_table_types.specs.Table.{Decoded};
 
     ghost Value = { Decoded };
 
@@ -145,7 +145,7 @@ impl Drop for PlacedRow {
 }
 
 impl Model for PlacedRow {
-    ghost use Rattle.vortex_table.specs.Chosen.{Placed};
+    ghost use Rattle.vortex_table_types.specs.Chosen.{Placed};
 
     ghost Value = { Placed };
 

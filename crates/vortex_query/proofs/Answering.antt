@@ -12,12 +12,12 @@ use Rattle.vortex_array_types.specs.Row.{Column}
 use Rattle.vortex_scan_types.specs.declared.batch.Batch.{Batch}
 use Rattle.vortex_scan_types.specs.declared.request.Projection.{Projection}
 use Rattle.vortex_scan_types.specs.declared.request.Projection.TheVariants as projection
-use Rattle.vortex_table.specs.Answers.{Answers, Asked, columns_of, stands_for}
+use Rattle.vortex_table_types.specs.Answers.{Answers, Asked, columns_of, stands_for}
 use Rattle.vortex_table.specs.Built.{u64_type}
-use Rattle.vortex_table.specs.Chosen.{Placed, projected_types}
+use Rattle.vortex_table_types.specs.Chosen.{Placed, projected_types}
 use Rattle.vortex_table.specs.Given.{given}
 use Rattle.vortex_scan_types.specs.Valid.{first_unknown}
-use Rattle.vortex_table.proofs.Joined.{chosen_full, ordered_joined}
+use Rattle.vortex_table_types.proofs.Joined.{chosen_full, ordered_joined}
 use Rattle.vortex_query.specs.Query.{Query, Shows, question_of}
 use Rattle.vortex_query.specs.Shown.{IsOneU64Batch, IsOneU64Column, rows_of}
 use Rattle.vortex_query.specs.Text.{text}

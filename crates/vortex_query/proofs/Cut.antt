@@ -14,13 +14,13 @@ use Rattle.std.proofs.lemmas.List.Elements.{All-cons, All-head, All-nil, All-tai
 use Rattle.vortex_io.specs.declared.order.Order.{Order}
 use Rattle.vortex_io.specs.Memory.{MemoryState}
 use Rattle.vortex_table.specs.declared.chunk.Chunk.{Chunk}
-use Rattle.vortex_table.specs.declared.describe.PartitionDesc.{PartitionDesc}
-use Rattle.vortex_table.specs.declared.describe.SplitDesc.{SplitDesc}
+use Rattle.vortex_table_types.specs.declared.describe.PartitionDesc.{PartitionDesc}
+use Rattle.vortex_table_types.specs.declared.describe.SplitDesc.{SplitDesc}
 use Rattle.vortex_table.specs.Built.{u64_type}
 use Rattle.vortex_table.specs.ChunkOf.{content_of}
 use Rattle.vortex_table.specs.Given.{contents_of}
 use Rattle.vortex_table.specs.State.{IsCleared}
-use Rattle.vortex_table.specs.Table.{Content, FitsChunk, FitsPartition}
+use Rattle.vortex_table_types.specs.Table.{Content, FitsChunk, FitsPartition}
 use Rattle.vortex_query.specs.Numbered.{NumberedColumn, numbered}
 use Rattle.vortex_query.specs.Spelled.{IsFresh, cut, spelled, chunks_of, numbers_column, partition_of, piece, pieces, split_of}
 

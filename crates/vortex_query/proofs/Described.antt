@@ -11,16 +11,16 @@ use Rattle.std.proofs.lemmas.List.FromFn.{length-map-range_with_len}
 use Rattle.std.proofs.lemmas.List.Sums.{sum_by-le}
 use Rattle.csv.specs.Reading.{default_config, records, strip_bom}
 use Rattle.vortex_array_types.specs.declared.column.ColumnDesc.{ColumnDesc}
-use Rattle.vortex_table.specs.declared.describe.PartitionDesc.{PartitionDesc}
-use Rattle.vortex_table.specs.declared.describe.SplitDesc.{SplitDesc}
-use Rattle.vortex_table.specs.declared.errors.TableError.{TableError}
-use Rattle.vortex_table.specs.declared.errors.TableError.TheVariants.{RepeatedName, SourceCount, ChunkListDoesNotFit, TooLarge, OutOfMemory}
+use Rattle.vortex_table_types.specs.declared.describe.PartitionDesc.{PartitionDesc}
+use Rattle.vortex_table_types.specs.declared.describe.SplitDesc.{SplitDesc}
+use Rattle.vortex_table_types.specs.declared.errors.TableError.{TableError}
+use Rattle.vortex_table_types.specs.declared.errors.TableError.TheVariants.{RepeatedName, SourceCount, ChunkListDoesNotFit, TooLarge, OutOfMemory}
 use Rattle.vortex_io.specs.Memory.{MemoryState}
 use Rattle.vortex_table.specs.declared.chunk.Chunk.{Chunk}
 use Rattle.vortex_table.specs.Built.{u64_type}
 use Rattle.vortex_table.specs.ChunkOf.{content_of}
 use Rattle.vortex_table.specs.Given.{contents_of}
-use Rattle.vortex_table.specs.Described.{AllFit, FitsColumns, IsDescribed, Refuses, rows_of}
+use Rattle.vortex_table_types.specs.Described.{AllFit, FitsColumns, IsDescribed, Refuses, rows_of}
 use Rattle.vortex_query.specs.Fields.{header_name}
 use Rattle.vortex_query.specs.Numbered.{NumberedColumn, column_in, numbered, rows_numbers, under_name}
 use Rattle.vortex_query.specs.Spelled.{chunks_of, partition_of, piece, pieces, split_of}

@@ -18,9 +18,9 @@ use Rattle.vortex_scan_types.specs.declared.request.Projection.TheVariants as pr
 use Rattle.vortex_table.specs.Built.{u64_type}
 use Rattle.vortex_table.specs.Given.{given}
 use Rattle.vortex_table.specs.Scanning.{u64_column, u64_row}
-use Rattle.vortex_table.specs.Table.{row_at}
+use Rattle.vortex_table_types.specs.Table.{row_at}
 use Rattle.vortex_scan_types.specs.declared.batch.Batch.{Batch}
-use Rattle.vortex_table.specs.Turn.{batch_rows}
+use Rattle.vortex_table_types.specs.Turn.{batch_rows}
 use Rattle.vortex_query.specs.Shown.{IsOneU64Column, number_row, one_value, rows_of}
 use Rattle.vortex_query.specs.Text.{header_cell, line_text, text}
 

@@ -7,10 +7,10 @@ use Rattle.vortex_buffer.specs.Counts.{Faulted}
 use Rattle.vortex_streams.specs.Known.{AppendsFront}
 use Rattle.vortex_array_types.specs.Cells.{Row}
 use Rattle.vortex_scan_types.specs.declared.request.ScanRequest.{ScanRequest}
-use Rattle.vortex_table.specs.Answers.{Answers, Asked, Given, asked, within}
-use Rattle.vortex_table.specs.Chosen.{Placed, chosen}
-use Rattle.vortex_table.specs.Table.{decoded}
-use Rattle.vortex_table.specs.Turn.{batch_rows}
+use Rattle.vortex_table_types.specs.Answers.{Answers, Asked, Given, asked, within}
+use Rattle.vortex_table_types.specs.Chosen.{Placed, chosen}
+use Rattle.vortex_table_types.specs.Table.{decoded}
+use Rattle.vortex_table_types.specs.Turn.{batch_rows}
 use Rattle.vortex_scan_types.specs.Valid.{first_unknown}
 use Rattle.vortex_query.specs.Requested.{requested}
 use Rattle.vortex_query.specs.Spelled.{SpelledTable, spelled}

@@ -10,7 +10,7 @@ use Rattle.vortex_array.specs.ColumnOf.{column_of}
 use Rattle.vortex_scan_types.specs.declared.batch.Batch.{Batch}
 use Rattle.vortex_table.specs.Given.{given}
 use Rattle.vortex_table.specs.Built.{u64_type}
-use Rattle.vortex_table.specs.Turn.{batch_rows}
+use Rattle.vortex_table_types.specs.Turn.{batch_rows}
 
 -- the rows of the batches together
 abbrev pub rows_of : List Batch → List Row

@@ -8,14 +8,14 @@ use Rattle.vortex_array_types.specs.Row.{Column}
 use Rattle.vortex_io.specs.declared.order.Arrive.TheVariants.{OnWait}
 use Rattle.vortex_io.specs.declared.order.Order.{Order}
 use Rattle.vortex_io.specs.declared.order.Order.TheVariants.{First}
-use Rattle.vortex_table.specs.declared.describe.PartitionDesc.{PartitionDesc}
-use Rattle.vortex_table.specs.declared.describe.SplitDesc.{SplitDesc}
+use Rattle.vortex_table_types.specs.declared.describe.PartitionDesc.{PartitionDesc}
+use Rattle.vortex_table_types.specs.declared.describe.SplitDesc.{SplitDesc}
 use Rattle.vortex_io.specs.Memory.{MemoryState}
 use Rattle.vortex_table.specs.declared.chunk.Chunk.{Chunk}
 use Rattle.vortex_table.specs.Built.{u64_type}
 use Rattle.vortex_table.specs.Given.{contents_of}
 use Rattle.vortex_table.specs.State.{TableState}
-use Rattle.vortex_table.specs.Table.{Content}
+use Rattle.vortex_table_types.specs.Table.{Content}
 use Rattle.vortex_query.specs.Numbered.{NumberedColumn, numbered}
 use Rattle.vortex_query.specs.declared.options.Encode.TheVariants.{Plain}
 use Rattle.vortex_query.specs.declared.options.Options.{Options}

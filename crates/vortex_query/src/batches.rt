@@ -6,7 +6,7 @@ ghost use Rattle.vortex_query.specs.Shown.{Holds, IsOneU64Batch, IsOneU64Column,
 ghost use Rattle.vortex_query.specs.Text.{header_cell as cell_text, line_text, text, type_text};
 ghost use Rattle.vortex_table.specs.Built.{u64_type};
 ghost use Rattle.vortex_table.specs.Given.{given};
-ghost use Rattle.vortex_table.specs.Turn.{batch_rows};
+ghost use Rattle.vortex_table_types.specs.Turn.{batch_rows};
 ghost use Rattle.vortex_scan_types.specs.declared.request.Projection.TheVariants as projections;
 
 use csv::{Writer, WriterBuilder};

@@ -8,10 +8,10 @@ ghost use Rattle.vortex_query.specs.Spelled.{table_seen};
 ghost use Rattle.vortex_query.specs.declared.program.refusal.Refusal.TheVariants.{NotBuilt, ReadFailed, WriteFailed};
 ghost use Rattle.vortex_buffer.specs.Counts.{Faulted};
 ghost use Rattle.vortex_streams.specs.Known.{AppendsFront};
-ghost use Rattle.vortex_table.specs.Answers.{Answers};
+ghost use Rattle.vortex_table_types.specs.Answers.{Answers};
 ghost use Rattle.vortex_table.specs.Given.{contents_of, given, question};
 ghost use Rattle.vortex_table.specs.State.{ArrivesInOrder};
-ghost use Rattle.vortex_table.specs.Table.{FitsPartition};
+ghost use Rattle.vortex_table_types.specs.Table.{FitsPartition};
 ghost use Rattle.vortex_scan_types.specs.Valid.{first_unknown};
 
 mod refusal;

@@ -6,8 +6,8 @@ ghost use Rattle.vortex_query.specs.Spelled.{IsFresh, chunks_of, default_options
 ghost use Rattle.vortex_query.specs.declared.table_text.TableTextError.TheVariants.{NotBuilt, OutOfMemory};
 ghost use Rattle.vortex_table.specs.Built.{u64_type};
 ghost use Rattle.vortex_table.specs.Given.{contents_of};
-ghost use Rattle.vortex_table.specs.Table.{FitsPartition};
-ghost use Rattle.vortex_table.specs.declared.errors.TableError.TheVariants as tables;
+ghost use Rattle.vortex_table_types.specs.Table.{FitsPartition};
+ghost use Rattle.vortex_table_types.specs.declared.errors.TableError.TheVariants as tables;
 
 mod cut;
 mod fields;

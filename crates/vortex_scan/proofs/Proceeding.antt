@@ -130,6 +130,10 @@ module _ {W S C E : Type 0} (works : Works W C E) (source : Ghosts S C) (payload
   pub batch_more : (old new : RunState W S) (batch : Batch) → Advances works source payload old new (progress.Batch batch) → VisitsMore old new
   batch_more old new batch a = made_by old a.between new (goes_more a.turns old a.between a.goes) (turn_more a.between new (visited.Batch batch) a.ends)
 
+  -- nor one that ends with a root done
+  pub done_more : (old new : RunState W S) (root : RootId) → Advances works source payload old new (progress.RootDone root) → VisitsMore old new
+  done_more old new root a = made_by old a.between new (goes_more a.turns old a.between a.goes) (turn_more a.between new (visited.RootDone root) a.ends)
+
   -- one that ends where all items wait made visits, or only asked
   pub waiting_more : (old new : RunState W S) → Advances works source payload old new progress.Waiting → VisitsMore old new ⊎ Rests old new
   waiting_more old new a =

@@ -117,7 +117,7 @@ impl<P: Planner, S: IoSource<Payload = P::Payload>> Run<P, S> {
     }
 
     /// How many visits were made.
-    pub(crate) fn visits(&self) -> u64
+    pub fn visits(&self) -> u64
         ensures { result ≡ self.now.visits }
     {
         self.counts.visits

@@ -1,12 +1,3 @@
-pub mod Rising
-pub mod Ascend
-pub mod Exactly
-pub mod Whole
-pub mod Apart
-pub mod Tiling
-pub mod Turning
-pub mod Joined
-pub mod Zipped
 pub mod Filtered
 pub mod ReadBack
 pub mod SplitSteps

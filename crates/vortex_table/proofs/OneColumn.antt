@@ -15,30 +15,30 @@ use Rattle.vortex_array_types.specs.declared.column.ColumnDesc.{ColumnDesc}
 use Rattle.vortex_io.specs.declared.request.IoTarget.TheVariants as target
 use Rattle.vortex_table.specs.declared.built.Comparison.{Comparison}
 use Rattle.vortex_table.specs.declared.chunk.Chunk.{Chunk}
-use Rattle.vortex_table.specs.declared.describe.ChunkDesc.{ChunkDesc}
-use Rattle.vortex_table.specs.declared.describe.SplitDesc.{SplitDesc}
-use Rattle.vortex_table.specs.declared.describe.PartitionDesc.{PartitionDesc}
+use Rattle.vortex_table_types.specs.declared.describe.ChunkDesc.{ChunkDesc}
+use Rattle.vortex_table_types.specs.declared.describe.SplitDesc.{SplitDesc}
+use Rattle.vortex_table_types.specs.declared.describe.PartitionDesc.{PartitionDesc}
 use Rattle.vortex_scan_types.specs.declared.batch.WorkScope.{WorkScope}
 use Rattle.vortex_scan_types.specs.declared.request.Projection.{Projection}
 use Rattle.vortex_scan_types.specs.declared.request.Projection.TheVariants.{All as AllColumns, Columns}
 use Rattle.vortex_scan_types.specs.declared.request.ScanRequest.{ScanRequest}
 use Rattle.vortex_scan_types.specs.declared.selection.Selection.{Selection}
 use Rattle.vortex_scan_types.specs.declared.selection.Selection.TheVariants.{All as AllPlaces, IncludeByIndex, ExcludeByIndex}
-use Rattle.vortex_table.specs.Answers.{Answers, Given, asked, columns_of}
+use Rattle.vortex_table_types.specs.Answers.{Answers, Given, asked, columns_of}
 use Rattle.vortex_table.specs.Built.{is_one_u64, is_u64, is_unlimited, is_whole, selects_all, u64_type}
-use Rattle.vortex_table.specs.Chosen.{Placed, chosen, is_chosen, is_selected, projected, projected_types, rows_in}
+use Rattle.vortex_table_types.specs.Chosen.{Placed, chosen, is_chosen, is_selected, projected, projected_types, rows_in}
 use Rattle.vortex_table.specs.ChunkOf.{chunk_column, content_of}
-use Rattle.vortex_table.specs.Described.{FitsColumns, IsChunkOf}
+use Rattle.vortex_table_types.specs.Described.{FitsColumns, IsChunkOf}
 use Rattle.vortex_table.specs.Kept.{passes}
 use Rattle.vortex_scan_types.specs.Members.{in_selection, in_some_range}
 use Rattle.vortex_table.specs.Scanning.{HasNumbers, batch_if, chunk_numbers, column_at, kept_batches, scope_at, split_numbers, u64_column, u64_row}
-use Rattle.vortex_table.specs.Table.{FitsChunk, FitsPartition, decoded, row_at, scopes_from, split_rows, split_scopes}
-use Rattle.vortex_table.specs.Turn.{given_of, in_turn}
+use Rattle.vortex_table_types.specs.Table.{FitsChunk, FitsPartition, decoded, row_at, scopes_from, split_rows, split_scopes}
+use Rattle.vortex_table_types.specs.Turn.{given_of, in_turn}
 use Rattle.vortex_table.proofs.ReadBack.{column_fits}
-use Rattle.vortex_table.proofs.Rising.{Each}
-use Rattle.vortex_table.proofs.Whole.{all_each}
-use Rattle.vortex_table.proofs.Tiling.{chosen_parts, placed_from, placed_parts}
-use Rattle.vortex_table.proofs.Turning.{in_turn_answers}
+use Rattle.vortex_table_types.proofs.Rising.{Each}
+use Rattle.vortex_table_types.proofs.Whole.{all_each}
+use Rattle.vortex_table_types.proofs.Tiling.{chosen_parts, placed_from, placed_parts}
+use Rattle.vortex_table_types.proofs.Turning.{in_turn_answers}
 
 -- ---- requests without limits
 

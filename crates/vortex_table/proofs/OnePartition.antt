@@ -8,18 +8,18 @@ use Rattle.vortex_array_types.specs.declared.column.ColumnDesc.{ColumnDesc}
 use Rattle.vortex_io.specs.Memory.{MemoryState}
 use Rattle.vortex_table.specs.declared.built.Comparison.{Comparison}
 use Rattle.vortex_table.specs.declared.chunk.Chunk.{Chunk}
-use Rattle.vortex_table.specs.declared.describe.PartitionDesc.{PartitionDesc}
+use Rattle.vortex_table_types.specs.declared.describe.PartitionDesc.{PartitionDesc}
 use Rattle.vortex_scan_types.specs.declared.request.ScanRequest.{ScanRequest}
-use Rattle.vortex_table.specs.Answers.{Answers, asked}
+use Rattle.vortex_table_types.specs.Answers.{Answers, asked}
 use Rattle.vortex_table.specs.Built.{is_one_u64, is_unlimited}
-use Rattle.vortex_table.specs.Described.{AllFit}
+use Rattle.vortex_table_types.specs.Described.{AllFit}
 use Rattle.vortex_table.specs.Given.{contents_of}
 use Rattle.vortex_table.specs.Kept.{passes}
 use Rattle.vortex_table.specs.Scanning.{FirstHolds, table_batches, u64_row}
 use Rattle.vortex_table.specs.State.{Stands}
-use Rattle.vortex_table.specs.Table.{FitsPartition}
+use Rattle.vortex_table_types.specs.Table.{FitsPartition}
 use Rattle.vortex_table.proofs.OneColumn.{kept_answers, none_answer, numbers_held, unlimited}
-use Rattle.vortex_table.proofs.Zipped.{zipped-same}
+use Rattle.vortex_table_types.proofs.Zipped.{zipped-same}
 
 -- where contents fit, the first source has the numbers of the first partition
 pub first_held : (columns : List ColumnDesc) (partitions : List PartitionDesc) (sources : List (MemoryState Chunk)) → is_one_u64 columns ≡ true → All (AllFit columns) partitions

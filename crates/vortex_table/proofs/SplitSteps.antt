@@ -9,7 +9,7 @@ use Rattle.vortex_io.specs.Source.{chunk_at, fetches, is_outside}
 use Rattle.vortex_io.specs.declared.request.JournalEntry.{JournalEntry}
 use Rattle.vortex_table.specs.declared.built.Comparison.{Comparison}
 use Rattle.vortex_table.specs.declared.chunk.Chunk.{Chunk}
-use Rattle.vortex_table.specs.declared.describe.SplitDesc.{SplitDesc}
+use Rattle.vortex_table_types.specs.declared.describe.SplitDesc.{SplitDesc}
 use Rattle.vortex_table.specs.Kept.{passes}
 use Rattle.vortex_table.specs.Fetching.{first_owner, split_request, split_requests, waits_for}
 use Rattle.vortex_table.specs.Scanning.{HasNumbers, IsExtended, after_split, batch_if, kept_batches, oldest_column, scope_at, u64_column}

@@ -14,7 +14,7 @@ use Rattle.vortex_table.specs.State.{TableState}
 use Rattle.vortex_scan_types.specs.Valid.{first_unknown}
 use Rattle.vortex_table.specs.declared.errors.ScanError.{ScanError}
 use Rattle.vortex_table.specs.declared.errors.ScanError.TheVariants.{NotBuilt, InvalidRequest, OutOfMemory}
-use Rattle.vortex_table.specs.declared.describe.PartitionDesc.{PartitionDesc}
+use Rattle.vortex_table_types.specs.declared.describe.PartitionDesc.{PartitionDesc}
 use Rattle.vortex_scan_types.specs.declared.request.Projection.{Projection}
 use Rattle.vortex_scan_types.specs.declared.request.Projection.TheVariants.{All, Columns}
 use Rattle.vortex_scan_types.specs.declared.request.ScanRequest.{ScanRequest}

@@ -4,7 +4,7 @@ use Rattle.vortex_array_types.specs.Row.{Column}
 use Rattle.vortex_array.specs.ColumnOf.{column_of}
 use Rattle.vortex_table.specs.declared.chunk.Chunk.{Chunk}
 use Rattle.vortex_table.specs.declared.chunk.Chunk.TheVariants.{Plain}
-use Rattle.vortex_table.specs.Table.{Content}
+use Rattle.vortex_table_types.specs.Table.{Content}
 
 -- the type and the rows of a chunk
 abbrev pub chunk_column : Chunk → Column

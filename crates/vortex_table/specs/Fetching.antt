@@ -11,8 +11,8 @@ use Rattle.vortex_io.specs.declared.request.IoTarget.TheVariants as target
 use Rattle.vortex_io.specs.declared.request.JournalEntry.{JournalEntry}
 use Rattle.vortex_io.specs.declared.request.JournalEntry.TheVariants.{Waited}
 use Rattle.vortex_table.specs.declared.chunk.Chunk.{Chunk}
-use Rattle.vortex_table.specs.declared.describe.PartitionDesc.{PartitionDesc}
-use Rattle.vortex_table.specs.declared.describe.SplitDesc.{SplitDesc}
+use Rattle.vortex_table_types.specs.declared.describe.PartitionDesc.{PartitionDesc}
+use Rattle.vortex_table_types.specs.declared.describe.SplitDesc.{SplitDesc}
 
 -- the request for the one chunk of a split
 abbrev pub split_request : ℕ → IoRequest

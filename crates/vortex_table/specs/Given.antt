@@ -6,11 +6,11 @@ use Rattle.vortex_io.specs.Memory.{MemoryState}
 use Rattle.vortex_table.specs.declared.chunk.Chunk.{Chunk}
 use Rattle.vortex_scan_types.specs.declared.batch.Batch.{Batch}
 use Rattle.vortex_scan_types.specs.declared.request.ScanRequest.{ScanRequest}
-use Rattle.vortex_table.specs.Answers.{Asked, Given, asked}
+use Rattle.vortex_table_types.specs.Answers.{Asked, Given, asked}
 use Rattle.vortex_table.specs.ChunkOf.{content_of}
-use Rattle.vortex_table.specs.Chosen.{is_partition_chosen}
+use Rattle.vortex_table_types.specs.Chosen.{is_partition_chosen}
 use Rattle.vortex_table.specs.State.{TableState}
-use Rattle.vortex_table.specs.Table.{Content}
+use Rattle.vortex_table_types.specs.Table.{Content}
 
 -- a batch: its scope, its number of rows, and its columns
 abbrev pub given : Batch → Given

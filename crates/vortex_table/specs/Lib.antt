@@ -1,10 +1,4 @@
-pub mod Table
-pub mod Chosen
-pub mod Answers
-pub mod Laws
-pub mod Turn
 pub mod ChunkOf
-pub mod Described
 pub mod State
 pub mod Built
 pub mod Kept

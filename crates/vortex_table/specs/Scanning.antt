@@ -15,11 +15,11 @@ use Rattle.vortex_io.specs.declared.request.JournalEntry.TheVariants.{Waited}
 use Rattle.vortex_io.specs.declared.request.IoTarget.TheVariants as target
 use Rattle.vortex_table.specs.declared.built.Comparison.{Comparison}
 use Rattle.vortex_table.specs.declared.chunk.Chunk.{Chunk}
-use Rattle.vortex_table.specs.declared.describe.PartitionDesc.{PartitionDesc}
-use Rattle.vortex_table.specs.declared.describe.SplitDesc.{SplitDesc}
+use Rattle.vortex_table_types.specs.declared.describe.PartitionDesc.{PartitionDesc}
+use Rattle.vortex_table_types.specs.declared.describe.SplitDesc.{SplitDesc}
 use Rattle.vortex_scan_types.specs.declared.batch.Batch.{Batch}
 use Rattle.vortex_scan_types.specs.declared.batch.WorkScope.{WorkScope}
-use Rattle.vortex_table.specs.Answers.{Given}
+use Rattle.vortex_table_types.specs.Answers.{Given}
 use Rattle.vortex_table.specs.Built.{u64_type}
 use Rattle.vortex_table.specs.ChunkOf.{chunk_column}
 use Rattle.vortex_table.specs.Kept.{passes}

@@ -7,7 +7,7 @@ use Rattle.vortex_io.specs.declared.order.Arrive.TheVariants.{OnWait}
 use Rattle.vortex_io.specs.declared.order.Order.TheVariants.{First}
 use Rattle.vortex_io.specs.declared.request.Fetch.{Fetch}
 use Rattle.vortex_io.specs.declared.request.JournalEntry.{JournalEntry}
-use Rattle.vortex_table.specs.declared.describe.PartitionDesc.{PartitionDesc}
+use Rattle.vortex_table_types.specs.declared.describe.PartitionDesc.{PartitionDesc}
 
 -- the columns, the partitions, and a source for each partition
 pub record TableState (S : Type 0) : Type 0 where

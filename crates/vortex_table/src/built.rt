@@ -10,13 +10,13 @@ ghost use Rattle.vortex_table.specs.Built.{HasCause, UnknownIn, is_built as is_b
 ghost use Rattle.vortex_scan_types.specs.Valid.{first_unknown};
 ghost use Rattle.vortex_table.specs.Kept.{passes};
 
-use crate::describe::PartitionDesc;
 use crate::errors::ScanError;
 use std::alloc::Global;
 use vortex_array::{
     ColumnDesc, CompareOperator, DType, Filter, Name, Nullability, Operand, PType, Scalar, Value,
 };
 use vortex_scan_types::{Projection, ScanRequest, Selection};
+use vortex_table_types::PartitionDesc;
 
 /// A comparison of the one column with a constant.
 #[derive(Clone, Copy, Debug, PartialEq, Eq)]

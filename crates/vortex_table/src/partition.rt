@@ -6,7 +6,7 @@ ghost use Rattle.vortex_io.specs.Memory.{MemoryState};
 ghost use Rattle.vortex_array_types.specs.Order.{accepts};
 ghost use Rattle.vortex_table.specs.Built.{u64_type};
 ghost use Rattle.vortex_table.specs.ChunkOf.{chunk_column};
-ghost use Rattle.vortex_table.specs.Described.{total_rows};
+ghost use Rattle.vortex_table_types.specs.Described.{total_rows};
 ghost use Rattle.vortex_table.specs.Given.{given};
 ghost use Rattle.vortex_table.specs.State.{ArrivesInOrder, Stands};
 ghost use Rattle.vortex_table.specs.Kept.{passes};
@@ -15,7 +15,6 @@ ghost use Rattle.vortex_table.specs.Scanning.{AreOfFirstRoot, CompletesOldest, F
 
 use crate::built::Comparison;
 use crate::chunk::Chunk;
-use crate::describe::{PartitionDesc, SplitDesc};
 use crate::numbers::{lent_numbers, read_numbers};
 use std::alloc::{AllocError, Global};
 use std::cmp::Ordering;
@@ -26,6 +25,7 @@ use vortex_io::{
     IoTarget, MemorySource,
 };
 use vortex_scan_types::{Batch, Place, RootId, WorkScope};
+use vortex_table_types::{PartitionDesc, SplitDesc};
 
 // A copy of all numbers.
 fn copied(alloc: Global, values: &[u64]) -> Result<Vec<u64>, AllocError>

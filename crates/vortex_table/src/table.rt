@@ -1,26 +1,24 @@
 // Tables: a description, and a source for each partition.
 ghost use Rattle.std.specs.Prelude.{◌≡◌, ◌<◌, ◌≤◌, OnOk, true, map, All, [], IfErr, IfOk, Some, length, option_map, slice_get};
 ghost use Rattle.std.specs.List.{AllZip};
-ghost use Rattle.vortex_table.specs.Described.{IsDescribed, Refuses, steps_of};
+ghost use Rattle.vortex_table_types.specs.Described.{IsDescribed, Refuses, steps_of};
 ghost use Rattle.vortex_io.specs.Memory.{MemoryState};
 ghost use Rattle.vortex_table.specs.Built.{is_one_u64};
 ghost use Rattle.vortex_table.specs.Fetching.{journals_after};
 ghost use Rattle.vortex_table.specs.Given.{contents_of, given};
 ghost use Rattle.vortex_table.specs.Scanning.{AreOfFirstRoot, table_batches};
 ghost use Rattle.vortex_table.specs.State.{ArrivesInOrder, IsCleared, Stands};
-ghost use Rattle.vortex_table.specs.Table.{FitsPartition};
+ghost use Rattle.vortex_table_types.specs.Table.{FitsPartition};
 
 use crate::built::Comparison;
-use crate::check::{count_steps, refusal};
 use crate::chunk::Chunk;
-use crate::describe::{PartitionDesc, SplitDesc};
-use crate::errors::TableError;
 use crate::partition::scan_sources;
 use std::alloc::{AllocError, Global};
 use std::marker::Model;
 use vortex_array::ColumnDesc;
 use vortex_io::{IoSource, MemorySource};
 use vortex_scan_types::Batch;
+use vortex_table_types::{PartitionDesc, SplitDesc, TableError, count_steps, refusal};
 
 /// A refusal, with the sources as they were handed in.
 #[derive(Drop)]
@@ -49,7 +47,7 @@ impl<S: IoSource<Payload = Chunk> + Drop> Drop for Table<S> {
 
 impl<S: IoSource<Payload = Chunk>> Model for Table<S> {
     ghost use Rattle.vortex_table.specs.State.{TableState};
-    ghost use Rattle.vortex_table.specs.Described.{IsTable};
+    ghost use Rattle.vortex_table_types.specs.Described.{IsTable};
 
     ghost Value = { TableState S };
 

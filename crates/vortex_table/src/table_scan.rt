@@ -2,12 +2,12 @@
 ghost use Rattle.std.specs.Prelude.{◌≡◌, All, IfErr, IfOk, None, OnOk, map, true};
 ghost use Rattle.std.specs.List.{AllZip};
 ghost use Rattle.vortex_io.specs.Memory.{MemoryState};
-ghost use Rattle.vortex_table.specs.Answers.{Answers};
+ghost use Rattle.vortex_table_types.specs.Answers.{Answers};
 ghost use Rattle.vortex_table.specs.Built.{ChangesNothing, HasCause, is_built};
 ghost use Rattle.vortex_table.specs.Fetching.{journals_after};
 ghost use Rattle.vortex_table.specs.Given.{contents_of, given, question, rank};
 ghost use Rattle.vortex_table.specs.State.{ArrivesInOrder, Stands};
-ghost use Rattle.vortex_table.specs.Table.{FitsPartition};
+ghost use Rattle.vortex_table_types.specs.Table.{FitsPartition};
 ghost use Rattle.vortex_scan_types.specs.Valid.{first_unknown};
 
 use crate::built::keep_of;

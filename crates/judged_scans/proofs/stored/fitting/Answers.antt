@@ -1,6 +1,6 @@
 use Rattle.std.proofs.Common.{◌≡◌, IsTrue, rules}
 use Rattle.std.specs.List.{AllZip}
-use Rattle.vortex_table.specs.Table.{FitsPartition}
+use Rattle.vortex_table_types.specs.Table.{FitsPartition}
 use Rattle.judged_scans.proofs.Sources.{fit_made}
 use Rattle.judged_scans.proofs.stored.fitting.Goals as goal
 

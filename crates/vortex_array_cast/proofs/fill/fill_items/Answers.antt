@@ -1,15 +1,20 @@
-use Rattle.std.proofs.Common.{◌∙◌, ◌≡◌, ap, arith, cond, get_or}
-use Rattle.vortex_array_kinds.specs.Validities.{valid_at}
-use Rattle.vortex_array_cast.proofs.FilledRows.{filled-more, filled-whole}
+use Rattle.std.proofs.Common.{◌≡◌, ◌∙◌, ap, length, subst, sym}
+use Rattle.std.specs.Prelude.{IfOk}
+use Rattle.vortex_array_kinds.specs.Validities.{valid_bits}
+use Rattle.vortex_array_cast.specs.Filled.{filled_items}
+use Rattle.vortex_array_cast.proofs.FilledRows.{filled-by-none, filled-none, has-none}
 use Rattle.vortex_array_cast.proofs.fill.fill_items.Goals as goal
 
-pub loop-i-preserved : goal.loop-i-preserved
-loop-i-preserved g c =
-    let x = c.index-items-i.result in
-    let v = c.args.validity.now in
-    let here : c.item_or.result ≡ cond (valid_at v c.loop-i.i) (get_or c.args.items.now c.loop-i.i x) c.args.fill = c.item_or.ensures ∙ ap (λ b. cond b x c.args.fill) c.is_valid.ensures ∙ ap (λ y. cond (valid_at v c.loop-i.i) y c.args.fill) c.index-items-i.is in
-    c.in_ok-push.ensures.items
-    ∙ filled-more c.args.fill v c.args.items.now c.loop-i.filled.items c.loop-i.i c.item_or.result x c.requires.long (omega arith) here c.loop-i.invariant
+pub returns-in-AllInvalid : goal.returns-in-AllInvalid
+returns-in-AllInvalid g c =
+    let items = c.args.items.now in
+    subst
+    (λ ys. IfOk c.equal_items.result (λ b. b ≡ ys))
+    (sym (filled-by-none c.args.fill items)
+    ∙ ap (λ v. filled_items c.args.fill items (valid_bits v (length items))) (sym c.in-AllInvalid.is))
+    c.equal_items.ensures
 
-pub returns : goal.returns
-returns g c = c.from_vec.ensures ∙ filled-whole c.args.fill c.args.validity.now c.args.items.now c.loop-i.filled.items c.loop-i.i c.requires.long (omega arith) c.loop-i.invariant
+pub returns-in_ok-same-in-NonNullable : goal.returns-in_ok-same-in-NonNullable
+returns-in_ok-same-in-NonNullable g c =
+    c.in_ok-same-in-NonNullable.ensures
+    ∙ filled-none c.args.fill c.args.validity.now c.args.items.now (has-none c.args.validity.now c.in-NonNullable.is)

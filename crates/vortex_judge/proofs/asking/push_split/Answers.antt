@@ -1,4 +1,4 @@
-use Rattle.vortex_table.specs.Table.{row_at}
+use Rattle.vortex_table_types.specs.Table.{row_at}
 use Rattle.vortex_judge.proofs.Parts.{split_more}
 use Rattle.vortex_judge.proofs.asking.push_split.Goals as goal
 

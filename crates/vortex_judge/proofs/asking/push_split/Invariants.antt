@@ -1,6 +1,6 @@
 use Rattle.std.proofs.Common.{◌≡◌, ◌++◌, ◌-◌, map}
 use Rattle.std.specs.List.{range_with_len}
-use Rattle.vortex_table.specs.Table.{row_at, split_rows}
+use Rattle.vortex_table_types.specs.Table.{row_at, split_rows}
 use Rattle.vortex_judge.proofs.asking.push_split.Given as goal
 
 abbrev pub invariant-loop-row : goal.invariant-loop-row

@@ -1,7 +1,7 @@
 use Rattle.std.proofs.Common.{◌≡◌, ◌++◌, drop, map, filter}
 use Rattle.std.specs.Prelude.{flat_map}
 use Rattle.std.specs.List.{enumerate_from}
-use Rattle.vortex_table.specs.Chosen.{chosen, placed_rows, is_chosen, projected}
+use Rattle.vortex_table_types.specs.Chosen.{chosen, placed_rows, is_chosen, projected}
 use Rattle.vortex_judge.proofs.chosen.chosen_rows.Given as goal
 
 abbrev pub invariant-loop-partition : goal.invariant-loop-partition

@@ -1,4 +1,4 @@
-use Rattle.vortex_table.specs.Table.{FitsChunk}
+use Rattle.vortex_table_types.specs.Table.{FitsChunk}
 use Rattle.vortex_judge.proofs.Zipped.{first_passed}
 use Rattle.vortex_judge.proofs.fit.+fit_chunks.Goals as goal
 

@@ -1,6 +1,6 @@
 use Rattle.std.proofs.Common.{◌∙◌, sym, subst, refl, length}
 use Rattle.std.specs.Prelude.{All, Contains}
-use Rattle.vortex_table.specs.Answers.{within}
+use Rattle.vortex_table_types.specs.Answers.{within}
 use Rattle.vortex_judge.proofs.Turns.{from_false, refused}
 use Rattle.vortex_judge.proofs.judge.answers.Goals as goal
 

@@ -1,6 +1,6 @@
 use Rattle.std.proofs.Common.{ℕ, ◌<◌}
 use Rattle.vortex_judge.specs.Steps.{Before}
-use Rattle.vortex_table.specs.Answers.{IsBefore}
+use Rattle.vortex_table_types.specs.Answers.{IsBefore}
 use Rattle.vortex_judge.proofs.judge.are_ascending.Given as goal
 
 abbrev pub invariant-loop-place : goal.invariant-loop-place

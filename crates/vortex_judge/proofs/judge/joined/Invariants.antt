@@ -1,6 +1,6 @@
 use Rattle.std.proofs.Common.{◌≡◌, take}
 use Rattle.std.specs.Prelude.{flat_map}
-use Rattle.vortex_table.specs.Answers.{stands_for}
+use Rattle.vortex_table_types.specs.Answers.{stands_for}
 use Rattle.vortex_judge.proofs.judge.joined.Given as goal
 
 abbrev pub invariant-loop-batch : goal.invariant-loop-batch

@@ -1,5 +1,5 @@
 use Rattle.std.proofs.Common.{refl, take}
-use Rattle.vortex_table.specs.Turn.{batch_rows}
+use Rattle.vortex_table_types.specs.Turn.{batch_rows}
 use Rattle.vortex_table.specs.Given.{given}
 use Rattle.vortex_scan_types.specs.declared.request.Projection.TheVariants as projections
 use Rattle.vortex_query.specs.Shown.{rows_of}

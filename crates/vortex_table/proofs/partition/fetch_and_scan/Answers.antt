@@ -1,5 +1,5 @@
 use Rattle.vortex_table.proofs.SplitSteps.{none_outside}
-use Rattle.vortex_table.proofs.Zipped.{from_false}
+use Rattle.vortex_table_types.proofs.Zipped.{from_false}
 use Rattle.vortex_table.proofs.partition.fetch_and_scan.Goals as goal
 
 pub unreachable-requires : goal.unreachable-requires

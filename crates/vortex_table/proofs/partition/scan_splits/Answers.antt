@@ -3,9 +3,9 @@ use Rattle.std.specs.Prelude.{filter}
 use Rattle.std.proofs.lemmas.List.Sums.{sum_by_more}
 use Rattle.vortex_table.specs.Given.{given}
 use Rattle.vortex_table.specs.Kept.{passes}
-use Rattle.vortex_table.specs.Answers.{Given}
+use Rattle.vortex_table_types.specs.Answers.{Given}
 use Rattle.vortex_table.specs.Scanning.{batch_if, kept_batches, scope_at}
-use Rattle.vortex_table.specs.declared.describe.SplitDesc.{SplitDesc}
+use Rattle.vortex_table_types.specs.declared.describe.SplitDesc.{SplitDesc}
 use Rattle.vortex_table.proofs.SplitSteps.{extended_more, kept_here, oldest_here, outstanding_after, waits_after}
 use Rattle.vortex_table.proofs.partition.scan_splits.Goals as goal
 

@@ -1,6 +1,6 @@
 use Rattle.std.proofs.Common.{◌≡◌, ◌∙◌, ap, sym, arith, length}
 use Rattle.vortex_table.specs.State.{IsCleared}
-use Rattle.vortex_table.proofs.Zipped.{written-over, zipped-same}
+use Rattle.vortex_table_types.proofs.Zipped.{written-over, zipped-same}
 use Rattle.vortex_table.proofs.table.clear_all.Goals as goal
 
 pub returns : goal.returns

@@ -5,7 +5,6 @@ use Rattle.vortex_array_kinds.specs.Pushed.{Grows, with_row}
 use Rattle.vortex_dict_builders.specs.Indexed.{NullAt}
 use Rattle.vortex_dict_builders.proofs.IndexLemmas.{null-kept}
 use Rattle.vortex_dict_builders.proofs.ItemLemmas.{finds-more}
-use Rattle.vortex_dict_builders.proofs.Succeeds.{succeeded}
 use Rattle.vortex_dict_builders.proofs.ValidityLemmas.{grows-more}
 use Rattle.vortex_dict_builders.proofs.primitives.PrimitiveEntries.push_item.Goals as goal
 
@@ -15,17 +14,16 @@ invariant_of-self-2 g c =
     let v = e.validity in
     let xs = e.items.items in
     let item = c.args.item in
-    let place : c.len-place.result ≡ length xs = omega (arith, c.len-place.ensures) in
+    let place : c.in_ok-place.place ≡ length xs = omega (arith, c.in_ok-place.ensures.number, c.len.ensures) in
     let grows = c.self.invariant.0.grows in
     let more = sym (length_push xs item) in
     let eq = g.T.PartialEq.eq in
     let new = rw (← c.self.view_is) at c.requires in
-    let put = succeeded c.insert.result (c.insert.ensures.succeeds (omega (arith, c.in_ok-reserve.ensures.ok))) c.insert.ensures.updates in
     rw (c.in_ok-push_entry.ensures.items, c.in_ok-push_entry.ensures.validity) (
       record {
         grows = subst (λ k. Grows (with_row true v) k) more (grows-more v (length xs) true grows);
         at = subst (λ k. NullAt (with_row true v) k e.null_place) more (null-kept v (length xs) e.null_place grows c.self.invariant.0.at);
       },
-      finds-more eq g.T.NativeValue.number g.met.T.NativeValue.same_number xs v (get eq e.places) (get eq c.insert.new.self) item grows c.self.invariant.1 new
-          (λ q. put.0 q ∙ ap (λ o. cond (eq item q) (Some c.len-place.result) o) (c.in_ok-reserve.ensures.entries.2 q) ∙ ap (λ k. cond (eq item q) (Some k) (get eq e.places q)) place),
+      finds-more eq g.T.NativeValue.number g.met.T.NativeValue.same_number xs v (get eq e.places) (get eq c.put_place.new.places) item grows c.self.invariant.1 new
+          (λ q. c.put_place.ensures q ∙ ap (λ o. cond (eq item q) (Some c.in_ok-place.place) o) (c.in_ok-place.ensures.same q) ∙ ap (λ k. cond (eq item q) (Some k) (get eq e.places q)) place),
     )

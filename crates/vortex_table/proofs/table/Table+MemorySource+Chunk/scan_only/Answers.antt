@@ -1,6 +1,6 @@
 use Rattle.vortex_table.specs.State.{Stands}
 use Rattle.vortex_table.proofs.OnePartition.{first_held}
-use Rattle.vortex_table.proofs.Zipped.{zipped-all, zipped-long}
+use Rattle.vortex_table_types.proofs.Zipped.{zipped-all, zipped-long}
 use Rattle.vortex_table.proofs.table.Table+MemorySource+Chunk.scan_only.Goals as goal
 
 pub scan_sources-requires-clause-held : goal.scan_sources-requires-clause-held

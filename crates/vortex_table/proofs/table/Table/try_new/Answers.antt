@@ -1,6 +1,6 @@
 use Rattle.std.proofs.Common.{◌≡◌, ◌∙◌, ap, length}
 use Rattle.vortex_table.specs.State.{IsCleared}
-use Rattle.vortex_table.proofs.Zipped.{zipped-all, zipped-long}
+use Rattle.vortex_table_types.proofs.Zipped.{zipped-all, zipped-long}
 use Rattle.vortex_table.proofs.table.Table.try_new.Goals as goal
 
 pub invariant_of-result : goal.invariant_of-result

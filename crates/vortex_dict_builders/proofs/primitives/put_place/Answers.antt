@@ -1,0 +1,6 @@
+use Rattle.std.proofs.Common.{arith}
+use Rattle.vortex_dict_builders.proofs.Succeeds.{succeeded}
+use Rattle.vortex_dict_builders.proofs.primitives.put_place.Goals as goal
+
+pub returns : goal.returns
+returns g c = let put = succeeded c.insert.result (c.insert.ensures.succeeds (omega (arith, c.requires))) c.insert.ensures.updates in put.0

@@ -1,7 +1,0 @@
-use Rattle.std.proofs.Common.{◌≡◌, ◌<◌, ◌^◌, take}
-use Rattle.std.specs.Prelude.{sum_by}
-use Rattle.vortex_table.specs.Described.{rows_of}
-use Rattle.vortex_table.proofs.check.count_rows.Given as goal
-
-abbrev pub invariant-loop-partition : goal.invariant-loop-partition
-invariant-loop-partition l = (l.rows < 2 ^ 64) × (l.rows ≡ sum_by rows_of (take l.partition-index l.partitions))

@@ -1,5 +1,0 @@
-use Rattle.vortex_table.proofs.Joined.{answer_joined}
-use Rattle.vortex_table.proofs.laws.answer_is_its_rows.Goals as goal
-
-pub returns : goal.returns
-returns c = answer_joined

@@ -1,5 +1,0 @@
-use Rattle.vortex_table.proofs.Joined.{chosen_full}
-use Rattle.vortex_table.proofs.laws.chosen_rows_are_full.Goals as goal
-
-pub returns : goal.returns
-returns c = chosen_full

@@ -1,5 +1,0 @@
-use Rattle.vortex_table.proofs.Joined.{ordered_joined}
-use Rattle.vortex_table.proofs.laws.ordered_answer_is_first_rows.Goals as goal
-
-pub returns : goal.returns
-returns c = ordered_joined

@@ -1,5 +1,0 @@
-use Rattle.vortex_table.proofs.Apart.{apart}
-use Rattle.vortex_table.proofs.laws.splits_are_apart.Goals as goal
-
-pub returns : goal.returns
-returns c = apart

@@ -1,0 +1,10 @@
+pub mod Listed
+pub mod FilterParts
+pub mod NamedChunks
+pub mod Asked
+pub mod KeptRows
+pub mod Decided
+pub mod Contents
+pub mod Present
+pub mod Equal
+pub mod OperandColumns

@@ -1,0 +1,3 @@
+pub mod ChunkOf
+pub mod Rows
+pub mod Kept

@@ -1,0 +1,9 @@
+pub mod Tied
+pub mod Parted
+pub mod Loops
+pub mod NewPlanner
+pub mod NewOwed
+pub mod Fitting
+pub mod Valid
+pub mod Keeping
+pub mod Ranges

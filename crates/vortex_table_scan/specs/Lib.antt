@@ -1,0 +1,14 @@
+pub mod State
+pub mod Given
+pub mod Over
+pub mod Causes
+pub mod Journals
+pub mod Cut
+pub mod Parted
+pub mod Rounds
+pub mod Gathering
+pub mod Planned
+pub mod Admitting
+pub mod Refusals
+pub mod Taking
+pub mod Went

@@ -1,0 +1,9 @@
+pub mod Back
+pub mod Counting
+pub mod Hexed
+pub mod Named
+pub mod Places
+pub mod Shown
+pub mod Signs
+pub mod Tens
+pub mod Wide

@@ -1,0 +1,6 @@
+use Rattle.std.proofs.Common.{◌≡◌, ◌<◌, ◌^◌, drop}
+use Rattle.vortex_query_fields.specs.Numbers.{number_after}
+use Rattle.vortex_query_fields.proofs.digits.many_digits.Given as goal
+
+abbrev pub invariant-loop-byte : goal.invariant-loop-byte
+invariant-loop-byte l = (l.number < 2 ^ 64) × (number_after l.number (drop l.byte-index l.bytes) ≡ number_after 0 l.bytes)
